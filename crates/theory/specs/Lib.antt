@@ -1,0 +1,4 @@
+pub mod Limits
+pub mod Flows
+pub mod Control
+pub mod Runs

@@ -1,0 +1,13 @@
+-- Where a sequence of commands leads, over steps, lockouts and a state alone.
+use Prim.Native.Nat.{ℕ}
+use mathlib.Core.Bool.{cond}
+use mathlib.Core.List.{List, [], _∷_}
+use Rattle.theory.specs.Flows.{Lockout}
+
+-- one command given: a locked one leaves the state
+abbrev pub moved : (ℕ → ℕ → ℕ) → Lockout → ℕ → ℕ → ℕ
+moved step L s c = cond (L c) s (step s c)
+
+abbrev pub leads : (ℕ → ℕ → ℕ) → Lockout → ℕ → List ℕ → ℕ
+leads step L s [] = s
+leads step L s (c ∷ r) = leads step L (moved step L s c) r
