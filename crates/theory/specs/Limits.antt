@@ -13,9 +13,8 @@ abbrev pub most-consoles : ℕ
 most-consoles = 12
 
 -- a count is at least 1 and at most `most`
-pub record Count (most n : ℕ) : Type 0 where
-  pub some : 1 ≤ n
-  pub few : n ≤ most
+abbrev pub Count : ℕ → ℕ → Type 0
+Count most n = (1 ≤ n) × (n ≤ most)
 
 -- the same, as a test
 abbrev pub counts : ℕ → ℕ → Bool
