@@ -33,6 +33,9 @@ bare-within n u v e = (first, second)
     second : v < n
     second = grind (arith, tells)
 
+pub has-room : (j n : ℕ) → n < 32 → (eqb j n && ltb j 32) ≡ eqb j n
+has-room j n h = grind (arith, tells)
+
 -- console n, which the set m holds alone, comes after those below it
 pub bare-more : (rows : List Members) (m : Members) (n : ℕ) → n < length rows → ((j : ℕ) → holds m j ≡ eqb j n)
     → ((u v : ℕ) → affects rows u v ≡ bare-flows n u v) → (u v : ℕ) → affects (set rows n m) u v ≡ bare-flows (n + 1) u v

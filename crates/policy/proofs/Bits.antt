@@ -116,24 +116,29 @@ bit-complement w y j small within = turned (even-or-odd (y / 2 ^ j))
         let zero : (2 ^ w - 1 - y) / 2 ^ j % 2 ≡ 0 = omega (arith, seen .0, seen .1, even) in
         ap (λ n. eqb n 1) zero ∙ sym (ap (λ n. not (eqb n 1)) e)
 
--- one number more, and one number less, in a set of numbers below 32
-pub bit-with : (a k j : ℕ) → k < 32 → bit (bitOr a ((1 * 2 ^ k) % 2 ^ 32)) j ≡ (bit a j || eqb j k)
+bit-with : (a k j : ℕ) → k < 32 → bit (bitOr a ((1 * 2 ^ k) % 2 ^ 32)) j ≡ (bit a j || eqb j k)
 bit-with a k j h = ap (λ n. bit (bitOr a n) j) (one-shl k 32 h) ∙ bit-or a (2 ^ k) j ∙ ap (λ b. bit a j || b) (bit-pow k j)
 
-pub bit-without : (a k j : ℕ) → k < 32 → j < 32 → bit (bitAnd a (2 ^ 32 - 1 - (1 * 2 ^ k) % 2 ^ 32)) j ≡ (bit a j && not (eqb j k))
+bit-without : (a k j : ℕ) → k < 32 → j < 32 → bit (bitAnd a (2 ^ 32 - 1 - (1 * 2 ^ k) % 2 ^ 32)) j ≡ (bit a j && not (eqb j k))
 bit-without a k j h within =
     ap (λ n. bit (bitAnd a (2 ^ 32 - 1 - n)) j) (one-shl k 32 h)
     ∙ bit-and a (2 ^ 32 - 1 - 2 ^ k) j
     ∙ ap (λ b. bit a j && b) (bit-complement 32 (2 ^ k) j (pow-below k 32 h) within ∙ ap not (bit-pow k j))
 
-pub room-or : (b : Bool) (j k : ℕ) → k < 32 → (ltb j 32 && (b || eqb j k)) ≡ ((ltb j 32 && b) || eqb j k)
-room-or b j k h = ⊎-elim
-    (λ (inside : j < 32). let t : ltb j 32 ≡ true = lt-ltb j 32 inside in simp t)
-    (λ (outside : 32 ≤ j). let f : ltb j 32 ≡ false = le-ltb j 32 outside in let g : eqb j k ≡ false = ne-eqb j k (λ e. omega arith) in simp (f, g))
-    (cases-lt j 32)
+-- One number more, and one number less, in a set with room for the numbers below 32.
+module _ (a k j : ℕ) where
+  pub set-with : k < 32 → (ltb j 32 && bit (bitOr a ((1 * 2 ^ k) % 2 ^ 32)) j) ≡ ((ltb j 32 && bit a j) || (eqb j k && ltb j 32))
+  set-with h = ap (λ b. ltb j 32 && b) (bit-with a k j h) ∙ apart (ltb j 32) (bit a j) (eqb j k)
+    where
+      apart : (t b e : Bool) → (t && (b || e)) ≡ ((t && b) || (e && t))
+      apart true true e = refl
+      apart true false true = refl
+      apart true false false = refl
+      apart false b true = refl
+      apart false b false = refl
 
-pub room-without : (a k j : ℕ) → k < 32 → (ltb j 32 && bit (bitAnd a (2 ^ 32 - 1 - (1 * 2 ^ k) % 2 ^ 32)) j) ≡ ((ltb j 32 && bit a j) && not (eqb j k))
-room-without a k j h = ⊎-elim
-    (λ (inside : j < 32). let t : ltb j 32 ≡ true = lt-ltb j 32 inside in simp t (bit-without a k j h inside))
-    (λ (outside : 32 ≤ j). let f : ltb j 32 ≡ false = le-ltb j 32 outside in simp f)
-    (cases-lt j 32)
+  pub set-without : k < 32 → (ltb j 32 && bit (bitAnd a (2 ^ 32 - 1 - (1 * 2 ^ k) % 2 ^ 32)) j) ≡ ((ltb j 32 && bit a j) && not (eqb j k))
+  set-without h = ⊎-elim
+      (λ (inside : j < 32). let t : ltb j 32 ≡ true = lt-ltb j 32 inside in simp t (bit-without a k j h inside))
+      (λ (outside : 32 ≤ j). let f : ltb j 32 ≡ false = le-ltb j 32 outside in simp f)
+      (cases-lt j 32)

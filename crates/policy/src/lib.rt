@@ -2,5 +2,5 @@
 pub mod board;
 pub mod flows;
 pub mod lockouts;
-mod members;
+pub mod members;
 pub mod refusal;

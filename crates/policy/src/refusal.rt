@@ -16,6 +16,8 @@ pub enum Refusal {
     CountsDiffer,
     // two controls side by side would pass the limits
     DoesNotFit,
+    // a sequence of over 64 commands is compared with another
+    SequenceTooLong,
     // a board has 1 to 12 consoles and 1 to 24 commands
     BoardLimits,
 }
@@ -41,6 +43,7 @@ impl Refusal {
             Refusal::SelfFlow => 9,
             Refusal::CountsDiffer => 10,
             Refusal::DoesNotFit => 11,
+            Refusal::SequenceTooLong => 14,
             Refusal::BoardLimits => 15,
         };
         Told {

@@ -1,8 +1,13 @@
 -- Where a sequence of commands leads, over steps, lockouts and a state alone.
 use Prim.Native.Nat.{ℕ}
-use mathlib.Core.Bool.{cond}
+use mathlib.Core.Bool.{Bool, true, cond, _&&_}
 use mathlib.Core.List.{List, [], _∷_}
 use Rattle.theory.specs.Flows.{Lockout}
+
+-- the test holds of every element
+abbrev pub every : (ℕ → Bool) → List ℕ → Bool
+every f [] = true
+every f (c ∷ r) = f c && every f r
 
 -- one command given: a locked one leaves the state
 abbrev pub moved : (ℕ → ℕ → ℕ) → Lockout → ℕ → ℕ → ℕ

@@ -1,18 +1,19 @@
 use Prim.Native.Nat.{ℕ, _<_}
 use mathlib.Core.Path.{_≡_, _∙_, ap, sym}
-use mathlib.Core.Bool.{true, _||_}
+use mathlib.Core.Bool.{true, _&&_, _||_}
 use native.Mathlib.Omega.{arith}
 use borrow.Author.Needs.{needs}
-use lib.Dec.{eqb}
+use lib.Dec.{eqb, ltb}
 use lib.ListN.{length-set}
 use Rattle.policy.specs.Members.{holds}
 use Rattle.policy.specs.Rows.{affects}
-use Rattle.policy.proofs.Bare.{bare-more, bare-itself, bare-within}
+use Rattle.policy.proofs.Bare.{has-room, bare-more, bare-itself, bare-within}
 use Rattle.policy.proofs.flows.Flows.bare.Needs as need
 
 pub loop-u-again : need.loop-u-again
 loop-u-again c =
-    let alone : (j : ℕ) → holds (c .with .result) j ≡ eqb j (c .loop-u .u) = λ j. c .with .ensures j ∙ ap (λ b. b || eqb j (c .loop-u .u)) (c .none .ensures j) in
+    let n : ℕ = c .loop-u .u in
+    let alone : (j : ℕ) → holds (c .with .result) j ≡ eqb j n = λ j. c .with .ensures j ∙ ap (λ b. b || (eqb j n && ltb j 32)) (c .none .ensures j) ∙ has-room j n (omega arith) in
     (length-set _ _ _ ∙ c .loop-u .inv .0, bare-more _ _ _ (omega arith) alone (c .loop-u .inv .1))
 
 pub ghost-result : need.ghost-result

@@ -1,0 +1,14 @@
+pub mod Sequences
+pub mod Chains
+pub mod Likeness
+pub mod Faithful
+pub mod Antitone
+pub mod Evenhanded
+pub mod Purging
+pub mod Sourcing
+pub mod Telling
+pub mod Turning
+pub mod Counting
+pub mod Showing
+pub mod Pulling
+pub mod Transmitting
