@@ -40,8 +40,7 @@ display-of v s u = v .shows (number-read (v .states) s) (number-read (v .console
 abbrev pub fits : {D : Type 0} → ControlValue D → ControlValue D → Bool
 fits a b =
     leb (a .states * b .states) most-states
-    && leb (a .commands + b .commands) most-commands
-    && leb (a .consoles + b .consoles) most-consoles
+    && (leb (a .commands + b .commands) most-commands && leb (a .consoles + b .consoles) most-consoles)
 
 -- Side by side: state s1 of the left and s2 of the right is s1 times the right's states plus
 -- s2; the left's commands and consoles come first; each side moves and shows its own.

@@ -1,0 +1,4 @@
+pub mod Reading
+pub mod Tables
+pub mod Pairs
+pub mod Replays

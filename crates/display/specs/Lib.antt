@@ -1,0 +1,4 @@
+pub mod Marks
+pub mod Ranges
+pub mod Codes
+pub mod Readings

@@ -1,0 +1,4 @@
+// What the programs print, made as text whose contracts say what it is.
+pub mod lines;
+pub mod transcript;
+pub mod trouble;

@@ -1,0 +1,3 @@
+// Sheets: the text of a control and its flows, read and written.
+pub mod fault;
+pub mod found;
