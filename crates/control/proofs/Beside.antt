@@ -7,12 +7,8 @@ use lib.Dec.{ltb}
 use Rattle.std.proofs.shelf.Tests.{lt-ltb, le-ltb, cond-true, cond-false}
 use Rattle.theory.specs.Limits.{number-read}
 use Rattle.theory.specs.Control.{ControlValue, Lawful, next-of, display-of, fits, product, side-by-side}
-use Rattle.control.specs.Reading.{number-read-below}
+use Rattle.theory.specs.Reading.{number-read-below, number-within}
 use Rattle.control.specs.Pairs.{left-state, right-state, side-by-side-lawful}
-
--- a number in range is read as it is
-number-within : (count n : ℕ) → n < count → number-read count n ≡ n
-number-within count n h = cond-true (ltb n count) n 0 (lt-ltb n count h)
 
 module _ {D : Type 0} {a b : ControlValue D} (left : Lawful a) (right : Lawful b) (fit : fits a b ≡ true) where
   pub beside : side-by-side a b ≡ product a b

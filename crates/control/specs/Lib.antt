@@ -1,4 +1,3 @@
-pub mod Reading
 pub mod Tables
 pub mod Pairs
 pub mod Replays

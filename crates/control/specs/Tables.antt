@@ -8,7 +8,7 @@ use lib.ListN.{length, getD}
 use denote.Ref.{now}
 use Rattle.theory.specs.Limits.{most-states, most-commands, most-consoles, count-read, number-read}
 use Rattle.theory.specs.Control.{ControlValue, Lawful}
-use Rattle.control.specs.Reading.{count-read-counts, number-read-below}
+use Rattle.theory.specs.Reading.{count-read-counts, number-read-below}
 use Rattle.control.specs.declared.table.Counts.{Counts}
 use Rattle.control.specs.declared.table.Store.{Store}
 use Rattle.control.specs.declared.table.Table.{Table}

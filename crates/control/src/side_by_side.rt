@@ -9,8 +9,8 @@ use policy::refusal::Refusal;
 // Each side moves and shows its own; a pair that does not fit is the left control alone.
 #[derive(Clone, Copy)]
 pub struct SideBySide<L, R> {
-    left: L,
-    right: R,
+    pub left: L,
+    pub right: R,
 }
 
 // Whether the product of the states and the sums of commands and consoles keep the limits.
@@ -27,15 +27,6 @@ pub fn check_fit<L: Control, R: Control<Display = L::Display>>(left: &L, right: 
     ensures { λ r. ⌜ r ≡ fit-answer (L·Control .value (now (left .entry))) (R·Control .value (now (right .entry))) ⌝ }
 {
     if fit(left, right) { Ok(()) } else { Err(Refusal::DoesNotFit) }
-}
-
-impl<L: Control, R: Control<Display = L::Display>> SideBySide<L, R> {
-    pub fn new(left: L, right: R) -> SideBySide<L, R>
-        ensures left { λ r. ⌜ r .left ≡ left ⌝ }
-        ensures right { λ r. ⌜ r .right ≡ right ⌝ }
-    {
-        SideBySide { left, right }
-    }
 }
 
 pub impl<L: Control, R: Control<Display = L::Display>> Control for SideBySide<L, R> as SideBySideControl {

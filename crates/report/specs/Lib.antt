@@ -1,3 +1,4 @@
 pub mod Lines
 pub mod Transcripts
 pub mod Troubles
+pub mod Sentences

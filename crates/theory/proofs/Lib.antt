@@ -1,1 +1,3 @@
 pub mod Passing
+pub mod Joining
+pub mod Apart

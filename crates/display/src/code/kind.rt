@@ -73,6 +73,8 @@ pub impl DisplayKind for Code as CodeDisplay {
 }
 
 // Codes that a console shows alike are one code, and a code is the same as itself.
-pub fn code_sameness_is_equality()
+pub fn code_sameness_is_equality() -> bool
     ensures { λ _. ⌜ CodeSamenessIsEquality ⌝ }
-{}
+{
+    true
+}

@@ -122,6 +122,8 @@ pub impl DisplayKind for Reading as ReadingDisplay {
 }
 
 // Readings that a console shows alike are one reading, and a reading is the same as itself.
-pub fn reading_sameness_is_equality()
+pub fn reading_sameness_is_equality() -> bool
     ensures { λ _. ⌜ ReadingSamenessIsEquality ⌝ }
-{}
+{
+    true
+}

@@ -1,3 +1,0 @@
-// Sheets: the text of a control and its flows, read and written.
-pub mod fault;
-pub mod found;
