@@ -60,7 +60,7 @@ fn armed_then_fired_reaches_the_last_state_with_readings() -> Result<(), Fail> {
 }
 
 #[test]
-fn a_locked_command_may_be_given_and_leaves_the_state() -> Result<(), Fail> {
+fn a_locked_command_moves_nothing() -> Result<(), Fail> {
     let shown = [0u16; 1200];
     let steps = steps();
     let owners = owners();

@@ -5,12 +5,12 @@ ghost use Rattle.theory.specs.Limits.{Count, most-states, most-commands, most-c
 ghost use Rattle.theory.specs.Control.{ControlValue, Lawful, owner-of, next-of, display-of};
 use display::kind::DisplayKind;
 
-// A receiver control. Asking changes nothing, so it answers alike each time; a number out of
-// range is read as 0.
+// A receiver control. Its methods only look at it, so the same question always has the same
+// answer. Numbers that are out of range count as 0.
 pub trait Control {
     type Display: DisplayKind;
 
-    // the three counts, the start, and a table each of consoles, steps and displays
+    // counts, start and the three tables
     ghost value: { Self → ControlValue Self·Display };
 
     ghost lawful: { (x : Self) → Lawful (value x) };

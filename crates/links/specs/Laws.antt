@@ -19,12 +19,12 @@ pub record Setting (k n : ℕ) (F : Flow) (owner : ℕ → ℕ) (u : ℕ) : Type
 abbrev pub Fewer : Flow → Flow → Type 0
 Fewer F G = (u v : ℕ) → F u v ≡ true → G u v ≡ true
 
--- two sequences are alike exactly when finitely many links lead from one to the other
+-- alike are just the sequences that a chain of links joins
 pub record Faithful (m : MeaningValue) : Type 0 where
   pub linked : (k n : ℕ) (F : Flow) (owner : ℕ → ℕ) (u : ℕ) → Setting k n F owner u → (p q : List ℕ) → All (λ c. c < n) p → All (λ c. c < n) q → m .alike F owner u p q ≡ true → Linked m n F owner u p q
   pub likened : (k n : ℕ) (F : Flow) (owner : ℕ → ℕ) (u : ℕ) → Setting k n F owner u → (p q : List ℕ) → All (λ c. c < n) p → All (λ c. c < n) q → Linked m n F owner u p q → m .alike F owner u p q ≡ true
 
--- a yes under some flows is a yes under any fewer
+-- taking flows away turns no yes into a no
 pub record Antitone (m : MeaningValue) : Type 0 where
   pub alike : (k n : ℕ) (F G : Flow) (owner : ℕ → ℕ) (u : ℕ) → Setting k n F owner u → Setting k n G owner u → Fewer F G → (p q : List ℕ) → All (λ c. c < n) p → All (λ c. c < n) q → m .alike G owner u p q ≡ true → m .alike F owner u p q ≡ true
   pub drop : (k : ℕ) (F G : Flow) → SelfFlows k F → SelfFlows k G → Fewer F G → (u v : ℕ) → u < k → v < k → m .drop G u v ≡ true → m .drop F u v ≡ true

@@ -12,7 +12,7 @@ pub record MeaningValue : Type 0 where
   pub drop : Flow → ℕ → ℕ → Bool
   -- may a command of z come after that drop (u, v, z)
   pub after-drop : Flow → ℕ → ℕ → ℕ → Bool
-  -- may neighbouring commands of v and w be exchanged for u (u, v, w)
+  -- may two neighbours, of v and of w, change places for u (u, v, w)
   pub exchange : Flow → ℕ → ℕ → ℕ → Bool
   -- may a command of z come after that exchange (u, v, w, z)
   pub after-exchange : Flow → ℕ → ℕ → ℕ → ℕ → Bool

@@ -33,8 +33,9 @@ intransitive-purge-meaning = record {
   after-exchange = λ F u v w z. false;
 }
 
--- TA: as IP; and neighbours of v and w are exchanged for u where v and w differ, neither may
--- affect the other and not both may affect u; a command of z may follow where not both may affect z
+-- TA: as IP; and neighbours of v and w change places for u where the two are different consoles
+-- without a flow between them either way, and u is open to one of them at most; a command of z
+-- may follow where z is open to one of them at most
 abbrev pub transmitted-meaning : MeaningValue
 transmitted-meaning = record {
   alike = λ F owner u p q. same-told (ta F owner u p) (ta F owner u q);

@@ -20,9 +20,8 @@ abbrev pub hears-all : Flow → (ℕ → ℕ) → (ℕ → Told) → List ℕ �
 hears-all F owner knows [] = knows
 hears-all F owner knows (a ∷ r) = hears-all F owner (hears F owner knows a) r
 
--- The field's ta: at first no console knows anything. `ta` of r followed by a is `ta` of r where
--- the console of a may not affect u, and else the triple of `ta` of r for u, `ta` of r for that
--- console, and a.
+-- The field's ta: at first no console knows anything. How it grows with the last command of a
+-- sequence is said by `TaGrows`.
 abbrev pub ta : Flow → (ℕ → ℕ) → ℕ → List ℕ → Told
 ta F owner u p = hears-all F owner (λ _. nothing) p u
 

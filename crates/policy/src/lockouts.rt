@@ -7,8 +7,8 @@ use crate::members::Members;
 
 pub mod calls;
 
-// The locked commands. A locked command may be given and leaves the state. No entry lies beyond
-// the number of commands.
+// The locked commands: each may still be given, and moves nothing. No entry lies beyond the
+// number of commands.
 #[derive(Clone, Copy)]
 pub struct Lockouts {
     commands: usize,

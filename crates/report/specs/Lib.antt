@@ -2,3 +2,4 @@ pub mod Lines
 pub mod Transcripts
 pub mod Troubles
 pub mod Sentences
+pub mod Examples

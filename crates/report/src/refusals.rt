@@ -34,7 +34,7 @@ pub fn refusal_sentence(heap: Global, refusal: Refusal) -> Result<String, AllocE
     format!(heap, "Refused with number {number}: {reason}.\n")
 }
 
-// The line of names `refusal place line block`, and a line of the four values.
+// Two lines: the names of the four values, and the values.
 pub fn refusal_values(heap: Global, refusal: Refusal) -> Result<String, AllocError>
     ensures { λ r. ⌜ made r (λ t. string-bytes t ≡ refusal-values refusal) ⌝ }
 {

@@ -42,8 +42,9 @@ fits a b =
     leb (a .states * b .states) most-states
     && (leb (a .commands + b .commands) most-commands && leb (a .consoles + b .consoles) most-consoles)
 
--- Side by side: state s1 of the left and s2 of the right is s1 times the right's states plus
--- s2; the left's commands and consoles come first; each side moves and shows its own.
+-- Side by side: the pair of states s1 and s2 has the number s1 times the right's states plus s2.
+-- The right's commands and consoles are numbered behind the left's. Each side moves and shows
+-- its own.
 abbrev pub product : {D : Type 0} → ControlValue D → ControlValue D → ControlValue D
 product a b = record {
   states = a .states * b .states;

@@ -30,7 +30,7 @@ with-flow F from to u v = F u v || this-flow from to u v
 abbrev pub without-flow : Flow → ℕ → ℕ → Flow
 without-flow F from to u v = F u v && not (this-flow from to u v)
 
--- A locked command may be given and leaves the state.
+-- A locked command may still be given, and moves nothing.
 abbrev pub Lockout : Type 0
 Lockout = ℕ → Bool
 
