@@ -1,6 +1,6 @@
 // Controls: receivers whose consoles give commands and see displays, behind one trait.
 pub mod control;
-mod reading;
+pub mod reading;
 pub mod replay;
 pub mod side_by_side;
 pub mod table;

@@ -7,6 +7,7 @@ ghost use Rattle.policy.specs.Lockouts.{commands-of, locks};
 ghost use Rattle.policy.specs.Board.{flows-of, lockouts-of};
 ghost use Rattle.control.specs.Replays.{commands-answer, counts-answer, replay-answer};
 use crate::control::Control;
+use crate::reading::all_below;
 use policy::board::Board;
 use policy::lockouts::Lockouts;
 use policy::refusal::Refusal;
@@ -33,12 +34,7 @@ pub fn walk<C: Control>(control: &C, lockouts: &Lockouts, sequence: &[u8]) -> us
 pub fn check_commands(lockouts: &Lockouts, sequence: &[u8]) -> Result<(), Refusal>
     ensures { λ r. ⌜ r ≡ commands-answer (commands-of (now (lockouts .entry))) (now (sequence .entry)) ⌝ }
 {
-    for command in sequence {
-        if usize::from(*command) >= lockouts.commands() {
-            return Err(Refusal::NoSuchCommand);
-        }
-    }
-    Ok(())
+    if all_below(lockouts.commands(), sequence) { Ok(()) } else { Err(Refusal::NoSuchCommand) }
 }
 
 // Refused where control and board have different numbers of consoles or of commands.
