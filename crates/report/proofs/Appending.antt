@@ -18,6 +18,10 @@ use Rattle.report.specs.Transcripts.{columns, console-width, line, effect-of, 
 pub then : {a b : List ℕ} (x y z : List ℕ) → a ≡ x ++ y → b ≡ a ++ z → b ≡ x ++ (y ++ z)
 then x y z before after = after ∙ ap (λ t. t ++ z) before ∙ append-assoc x y z
 
+-- three pieces after x
+pub three-pieces : {a b c : List ℕ} (x p q r : List ℕ) → a ≡ x ++ p → b ≡ a ++ q → c ≡ b ++ r → c ≡ x ++ (p ++ (q ++ r))
+three-pieces x p q r first second third = then x (p ++ q) r (then x p q first second) third ∙ ap (λ t. x ++ t) (append-assoc p q r)
+
 -- six pieces after x
 pub six-pieces : {a b c d e f : List ℕ} (x p q r s t u : List ℕ) → a ≡ x ++ p → b ≡ a ++ q → c ≡ b ++ r → d ≡ c ++ s → e ≡ d ++ t → f ≡ e ++ u → f ≡ x ++ (p ++ (q ++ (r ++ (s ++ (t ++ u)))))
 six-pieces x p q r s t u first second third fourth fifth sixth =

@@ -3,3 +3,4 @@ pub mod Transcripts
 pub mod Troubles
 pub mod Sentences
 pub mod Examples
+pub mod Comparisons
