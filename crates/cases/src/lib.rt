@@ -5,3 +5,5 @@ mod boards;
 mod controls;
 #[cfg(test)]
 mod latch;
+#[cfg(test)]
+mod likeness;

@@ -11,8 +11,8 @@ pub trait Meaning {
     // when two sequences of any length are alike, and the four questions
     ghost meaning: { Self → MeaningValue };
 
-    // alike exactly when finitely many links lead from one to the other; a yes stays a yes under
-    // fewer flows; the exchange questions do not care which console is named first
+    // alike are just the sequences that a chain of links joins; a yes stays a yes under fewer
+    // flows; the exchange questions do not care which console is named first
     law lawful: { (x : Self) → MeaningLaws (meaning x) };
 
     // Whether `left` and `right` are alike for `console`, where command c belongs to console
