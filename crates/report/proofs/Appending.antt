@@ -11,8 +11,8 @@ use Rattle.std.specs.Written.{decimal}
 use Rattle.theory.specs.Control.{ControlValue, next-of}
 use Rattle.theory.specs.Flows.{Lockout}
 use Rattle.theory.specs.Runs.{moved}
-use Rattle.report.specs.Lines.{padded}
-use Rattle.report.specs.Transcripts.{columns, console-width, line, effect-of, closing, lines, heading, transcript-text}
+use Rattle.report.specs.Lines.{upto}
+use Rattle.report.specs.Transcripts.{line, effect-of, closing, lines, heading, transcript-text}
 
 -- a text that has y after x, and then z
 pub then : {a b : List ℕ} (x y z : List ℕ) → a ≡ x ++ y → b ≡ a ++ z → b ≡ x ++ (y ++ z)
@@ -22,15 +22,18 @@ then x y z before after = after ∙ ap (λ t. t ++ z) before ∙ append-assoc x 
 pub three-pieces : {a b c : List ℕ} (x p q r : List ℕ) → a ≡ x ++ p → b ≡ a ++ q → c ≡ b ++ r → c ≡ x ++ (p ++ (q ++ r))
 three-pieces x p q r first second third = then x (p ++ q) r (then x p q first second) third ∙ ap (λ t. x ++ t) (append-assoc p q r)
 
+-- four pieces and nothing before
+pub four-pieces : {a b c d : List ℕ} (p q r s : List ℕ) → a ≡ p → b ≡ a ++ q → c ≡ b ++ r → d ≡ c ++ s → d ≡ p ++ (q ++ (r ++ s))
+four-pieces p q r s first second third fourth = three-pieces p q r s (second ∙ ap (λ x. x ++ q) first) third fourth
+
 -- six pieces after x
 pub six-pieces : {a b c d e f : List ℕ} (x p q r s t u : List ℕ) → a ≡ x ++ p → b ≡ a ++ q → c ≡ b ++ r → d ≡ c ++ s → e ≡ d ++ t → f ≡ e ++ u → f ≡ x ++ (p ++ (q ++ (r ++ (s ++ (t ++ u)))))
 six-pieces x p q r s t u first second third fourth fifth sixth =
     then x (p ++ (q ++ (r ++ (s ++ t)))) u (then x (p ++ (q ++ (r ++ s))) t (then x (p ++ (q ++ r)) s (then x (p ++ q) r (then x p q first second) third ∙ simp append-assoc) fourth ∙ simp append-assoc) fifth ∙ simp append-assoc) sixth ∙ simp append-assoc
 
--- one console's column more
-pub columns-more : {a b : List ℕ} (x : List ℕ) (word : ℕ → List ℕ) (n : ℕ) → a ≡ x ++ columns word n → b ≡ a ++ padded console-width (word n) → b ≡ x ++ columns word (n + 1)
-columns-more x word n before after =
-    then x (columns word n) (padded console-width (word n)) before after ∙ sym (ap (λ k. x ++ columns word k) (add-one n))
+-- the text of one number more
+pub upto-more : {a b : List ℕ} (x : List ℕ) (f : ℕ → List ℕ) (n : ℕ) → a ≡ x ++ upto f n → b ≡ a ++ f n → b ≡ x ++ upto f (n + 1)
+upto-more x f n before after = then x (upto f n) (f n) before after ∙ sym (ap (λ k. x ++ upto f k) (add-one n))
 
 -- One command's line more: command c at place i took state s to state t.
 module _ {D : Type 0} (mark : D → List ℕ) (v : ControlValue D) (L : Lockout) (p : List ℕ) (i s : ℕ) where

@@ -4,3 +4,4 @@ pub mod Troubles
 pub mod Sentences
 pub mod Examples
 pub mod Comparisons
+pub mod Readbacks

@@ -1,5 +1,5 @@
 -- The transcript of a replay: a line for the start, one for each command, and the closing state.
-use Prim.Native.Nat.{ℕ, _+_, suc, zero}
+use Prim.Native.Nat.{ℕ, _+_}
 use mathlib.Core.Bool.{Bool, cond}
 use mathlib.Core.List.{List, [], _∷_, _++_}
 use lib.Chars.{codes}
@@ -7,7 +7,7 @@ use Rattle.std.specs.Written.{decimal}
 use Rattle.theory.specs.Control.{ControlValue, display-of, next-of}
 use Rattle.theory.specs.Flows.{Lockout}
 use Rattle.theory.specs.Runs.{moved}
-use Rattle.report.specs.Lines.{padded}
+use Rattle.report.specs.Lines.{padded, upto}
 
 -- the widths of the columns
 abbrev pub step-width : ℕ
@@ -27,8 +27,7 @@ console-width = 12
 
 -- one column for each console below n
 abbrev pub columns : (ℕ → List ℕ) → ℕ → List ℕ
-columns word zero = []
-columns word (suc n) = columns word n ++ padded console-width (word n)
+columns word n = upto (λ u. padded console-width (word u)) n
 
 abbrev pub heading : ℕ → List ℕ
 heading consoles =

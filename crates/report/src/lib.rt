@@ -2,6 +2,7 @@
 pub mod comparison;
 pub mod example;
 pub mod lines;
+pub mod readback;
 pub mod refusals;
 pub mod transcript;
 pub mod trouble;
