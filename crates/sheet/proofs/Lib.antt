@@ -6,3 +6,7 @@ pub mod ExactFlows
 pub mod ExactSheets
 pub mod ExactControls
 pub mod SheetLengths
+pub mod Cursor
+pub mod Blocks
+pub mod Bounds
+pub mod Outcome

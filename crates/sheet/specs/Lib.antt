@@ -5,3 +5,4 @@ pub mod Text
 pub mod Reading
 pub mod Exact
 pub mod Calls
+pub mod Written

@@ -2,3 +2,6 @@
 pub mod exact;
 pub mod fault;
 pub mod found;
+mod lines;
+mod output;
+pub mod writer;
