@@ -1,9 +1,9 @@
 // Boards: their limits on both sides of each edge, their calls and refusals.
-use std::test::*;
 use policy::board::Board;
 use policy::refusal::Refusal;
 use policy::refusal::RefusalDebug;
 use policy::refusal::RefusalPartialEq;
+use std::test::*;
 
 #[test]
 fn a_board_has_one_to_twelve_consoles() -> Result<(), Fail> {

@@ -1,5 +1,4 @@
 // Tables and pairs of controls: limits, numbers out of range, and what fits side by side.
-use std::test::*;
 use crate::latch;
 use control::control::Control;
 use control::side_by_side::SideBySide;
@@ -14,9 +13,14 @@ use display::code::kind::CodeDisplay;
 use policy::refusal::Refusal;
 use policy::refusal::RefusalDebug;
 use policy::refusal::RefusalPartialEq;
+use std::test::*;
 
 fn counts(states: usize) -> Counts {
-    Counts { states, commands: 2, consoles: 3 }
+    Counts {
+        states,
+        commands: 2,
+        consoles: 3,
+    }
 }
 
 #[test]
@@ -24,12 +28,32 @@ fn counts_out_of_range_are_read_as_one() -> Result<(), Fail> {
     let steps = [9; 2400];
     let owners = [9; 24];
     let shown = [7u16; 1200];
-    let store = Store { steps: &steps, owners: &owners, displays: &shown };
-    let largest: Table<'_, Code> = Table::new(Counts { states: 100, commands: 24, consoles: 12 }, 99, store)?;
+    let store = Store {
+        steps: &steps,
+        owners: &owners,
+        displays: &shown,
+    };
+    let largest: Table<'_, Code> = Table::new(
+        Counts {
+            states: 100,
+            commands: 24,
+            consoles: 12,
+        },
+        99,
+        store,
+    )?;
     check_eq(largest.states(), 100)?;
     check_eq(largest.start(), 99)?;
     check_eq(largest.next(99, 23), 9)?;
-    let beyond: Table<'_, Code> = Table::new(Counts { states: 101, commands: 25, consoles: 13 }, 99, store)?;
+    let beyond: Table<'_, Code> = Table::new(
+        Counts {
+            states: 101,
+            commands: 25,
+            consoles: 13,
+        },
+        99,
+        store,
+    )?;
     check_eq(beyond.states(), 1)?;
     check_eq(beyond.commands(), 1)?;
     check_eq(beyond.consoles(), 1)?;
@@ -43,10 +67,18 @@ fn a_store_must_have_room_for_every_table() -> Result<(), Fail> {
     let steps = [0; 2400];
     let owners = [0; 24];
     let shown = [0u16; 1200];
-    let short = Store { steps: &steps[0..2399], owners: &owners, displays: &shown };
+    let short = Store {
+        steps: &steps[0..2399],
+        owners: &owners,
+        displays: &shown,
+    };
     let refused: Result<Table<'_, Code>, Refusal> = Table::new(counts(3), 0, short);
     check(refused.is_err())?;
-    let enough = Store { steps: &steps, owners: &owners, displays: &shown };
+    let enough = Store {
+        steps: &steps,
+        owners: &owners,
+        displays: &shown,
+    };
     let made: Result<Table<'_, Code>, Refusal> = Table::new(counts(3), 0, enough);
     check(made.is_ok())
 }
@@ -56,15 +88,25 @@ fn ten_states_fit_beside_ten_and_eleven_do_not() -> Result<(), Fail> {
     let steps = [0; 2400];
     let owners = [0; 24];
     let shown = [0u16; 1200];
-    let store = Store { steps: &steps, owners: &owners, displays: &shown };
+    let store = Store {
+        steps: &steps,
+        owners: &owners,
+        displays: &shown,
+    };
     let ten: Table<'_, Code> = Table::new(counts(10), 9, store)?;
     let eleven: Table<'_, Code> = Table::new(counts(11), 10, store)?;
     check_eq(check_fit(&ten, &ten), Ok(()))?;
     check_eq(check_fit(&eleven, &ten), Err(Refusal::DoesNotFit))?;
-    let pair = SideBySide { left: ten, right: ten };
+    let pair = SideBySide {
+        left: ten,
+        right: ten,
+    };
     check_eq(pair.states(), 100)?;
     check_eq(pair.start(), 99)?;
-    let unfit = SideBySide { left: eleven, right: ten };
+    let unfit = SideBySide {
+        left: eleven,
+        right: ten,
+    };
     check_eq(unfit.states(), 11)?;
     check_eq(unfit.commands(), 2)?;
     check_eq(unfit.start(), 10)
@@ -75,10 +117,20 @@ fn a_pair_of_pairs_moves_each_side_by_its_own_commands() -> Result<(), Fail> {
     let steps = latch::steps();
     let owners = latch::owners();
     let shown = [0u16; 1200];
-    let store = Store { steps: &steps, owners: &owners, displays: &shown };
+    let store = Store {
+        steps: &steps,
+        owners: &owners,
+        displays: &shown,
+    };
     let latch: Table<'_, Code> = Table::new(latch::COUNTS, 0, store)?;
-    let pair = SideBySide { left: latch, right: latch };
-    let four = SideBySide { left: pair, right: pair };
+    let pair = SideBySide {
+        left: latch,
+        right: latch,
+    };
+    let four = SideBySide {
+        left: pair,
+        right: pair,
+    };
     check_eq(four.states(), 81)?;
     check_eq(four.commands(), 8)?;
     check_eq(four.consoles(), 12)?;

@@ -1,5 +1,4 @@
 // The latch: console 0 arms it, console 1 fires it once armed, console 2 watches.
-use std::test::*;
 use control::replay::replay;
 use control::table::Counts;
 use control::table::Store;
@@ -13,8 +12,13 @@ use policy::board::Board;
 use policy::refusal::Refusal;
 use policy::refusal::RefusalDebug;
 use policy::refusal::RefusalPartialEq;
+use std::test::*;
 
-pub const COUNTS: Counts = Counts { states: 3, commands: 2, consoles: 3 };
+pub const COUNTS: Counts = Counts {
+    states: 3,
+    commands: 2,
+    consoles: 3,
+};
 
 pub fn steps() -> [u8; 2400] {
     let mut steps = [0; 2400];
@@ -38,7 +42,11 @@ fn armed_then_fired_reaches_the_last_state_with_codes() -> Result<(), Fail> {
     shown[8] = 1;
     let steps = steps();
     let owners = owners();
-    let store = Store { steps: &steps, owners: &owners, displays: &shown };
+    let store = Store {
+        steps: &steps,
+        owners: &owners,
+        displays: &shown,
+    };
     let table: Table<'_, Code> = Table::new(COUNTS, 0, store)?;
     let board = Board::bare(3, 2)?;
     check_eq(replay(&board, &table, &[0, 1]), Ok(2))?;
@@ -52,7 +60,11 @@ fn armed_then_fired_reaches_the_last_state_with_readings() -> Result<(), Fail> {
     shown[8] = Some(215i16);
     let steps = steps();
     let owners = owners();
-    let store = Store { steps: &steps, owners: &owners, displays: &shown };
+    let store = Store {
+        steps: &steps,
+        owners: &owners,
+        displays: &shown,
+    };
     let table: Table<'_, Reading> = Table::new(COUNTS, 0, store)?;
     let board = Board::bare(3, 2)?;
     check_eq(replay(&board, &table, &[0, 1]), Ok(2))?;
@@ -64,7 +76,11 @@ fn a_locked_command_moves_nothing() -> Result<(), Fail> {
     let shown = [0u16; 1200];
     let steps = steps();
     let owners = owners();
-    let store = Store { steps: &steps, owners: &owners, displays: &shown };
+    let store = Store {
+        steps: &steps,
+        owners: &owners,
+        displays: &shown,
+    };
     let table: Table<'_, Code> = Table::new(COUNTS, 0, store)?;
     let mut board = Board::bare(3, 2)?;
     board.lock(1)?;
@@ -78,7 +94,11 @@ fn no_such_command_is_told_before_differing_counts() -> Result<(), Fail> {
     let shown = [0u16; 1200];
     let steps = steps();
     let owners = owners();
-    let store = Store { steps: &steps, owners: &owners, displays: &shown };
+    let store = Store {
+        steps: &steps,
+        owners: &owners,
+        displays: &shown,
+    };
     let table: Table<'_, Code> = Table::new(COUNTS, 0, store)?;
     let board = Board::bare(4, 2)?;
     check_eq(replay(&board, &table, &[0, 2]), Err(Refusal::NoSuchCommand))?;

@@ -59,7 +59,7 @@ module _ {D : Type 0} {a b : ControlValue D} (left : Lawful a) (right : Lawful b
 
   -- What a console of the left side shows, where state s is read as s' and console u as u'.
   pub display-left : (s u s' u' w f : ℕ) (d : D) → s' ≡ number-read (side-by-side a b .states) s → u' ≡ number-read (side-by-side a b .consoles) u → w ≡ b .states → f ≡ a .consoles
-    → u' < f → d ≡ display-of a (s' / w) u' → d ≡ display-of (side-by-side a b) s u
+      → u' < f → d ≡ display-of a (s' / w) u' → d ≡ display-of (side-by-side a b) s u
   display-left s u s' u' w f d es eu ew ef first ed =
       let here : u' < a .consoles = omega arith in
       let row : s' / w < a .states = subst (λ n. s' / n < a .states) (sym ew) (left-state left right s' (state-below s s' es)) in

@@ -44,7 +44,7 @@ module _ {D : Type 0} {a b : ControlValue D} (left : Lawful a) (right : Lawful b
         stays = λ s c h k. cond-both (ltb c (a .commands)) _ _ (λ t. t < a .states * b .states)
             (λ first. joined-state (a .step (s / b .states) c) (s % b .states) (left .stays (s / b .states) c (left-state s h) (ltb-true _ _ first)) (right-state s))
             (λ second. joined-state (s / b .states) (b .step (s % b .states) (c - a .commands)) (left-state s h)
-              (right .stays (s % b .states) (c - a .commands) (right-state s) (omega (arith, ltb-false _ _ second, k))));
+            (right .stays (s % b .states) (c - a .commands) (right-state s) (omega (arith, ltb-false _ _ second, k))));
       }
 
   pub side-by-side-lawful : Lawful (side-by-side a b)

@@ -7,7 +7,11 @@ ghost use Rattle.theory.specs.Runs.{all-below};
 pub(crate) fn read_count(most: usize, count: usize) -> usize
     ensures { λ r. ⌜ r ≡ count-read most count ⌝ }
 {
-    if 1 <= count && count <= most { count } else { 1 }
+    if 1 <= count && count <= most {
+        count
+    } else {
+        1
+    }
 }
 
 // A number out of range is read as 0.

@@ -16,7 +16,11 @@ use policy::refusal::Refusal;
 pub fn give<C: Control>(control: &C, lockouts: &Lockouts, state: usize, command: usize) -> usize
     ensures { λ r. ⌜ r ≡ moved (next-of (C·Control .value (now (control .entry)))) (locks (now (lockouts .entry))) state command ⌝ }
 {
-    if lockouts.is_locked(command) { state } else { control.next(state, command) }
+    if lockouts.is_locked(command) {
+        state
+    } else {
+        control.next(state, command)
+    }
 }
 
 // The state that a sequence leads to from the start.
@@ -34,14 +38,20 @@ pub fn walk<C: Control>(control: &C, lockouts: &Lockouts, sequence: &[u8]) -> us
 pub fn check_commands(lockouts: &Lockouts, sequence: &[u8]) -> Result<(), Refusal>
     ensures { λ r. ⌜ r ≡ commands-answer (commands-of (now (lockouts .entry))) (now (sequence .entry)) ⌝ }
 {
-    if all_below(lockouts.commands(), sequence) { Ok(()) } else { Err(Refusal::NoSuchCommand) }
+    if all_below(lockouts.commands(), sequence) {
+        Ok(())
+    } else {
+        Err(Refusal::NoSuchCommand)
+    }
 }
 
 // Refused where control and board have different numbers of consoles or of commands.
 pub fn check_counts<C: Control>(board: &Board, control: &C) -> Result<(), Refusal>
     ensures { λ r. ⌜ r ≡ counts-answer (consoles-of (flows-of (now (board .entry)))) (commands-of (lockouts-of (now (board .entry)))) (C·Control .value (now (control .entry))) ⌝ }
 {
-    if control.consoles() != board.flows().consoles() || control.commands() != board.lockouts().commands() {
+    if control.consoles() != board.flows().consoles()
+        || control.commands() != board.lockouts().commands()
+    {
         return Err(Refusal::CountsDiffer);
     }
     Ok(())

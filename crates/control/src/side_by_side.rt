@@ -23,13 +23,23 @@ fn fit<L: Control, R: Control<Display = L::Display>>(left: &L, right: &R) -> boo
 }
 
 // The first call for a pair: refused where it would pass the limits.
-pub fn check_fit<L: Control, R: Control<Display = L::Display>>(left: &L, right: &R) -> Result<(), Refusal>
+pub fn check_fit<L: Control, R: Control<Display = L::Display>>(
+    left: &L,
+    right: &R,
+) -> Result<(), Refusal>
     ensures { λ r. ⌜ r ≡ fit-answer (L·Control .value (now (left .entry))) (R·Control .value (now (right .entry))) ⌝ }
 {
-    if fit(left, right) { Ok(()) } else { Err(Refusal::DoesNotFit) }
+    if fit(left, right) {
+        Ok(())
+    } else {
+        Err(Refusal::DoesNotFit)
+    }
 }
 
-pub impl<L: Control, R: Control<Display = L::Display>> Control for SideBySide<L, R> as SideBySideControl {
+pub impl<L: Control, R: Control<Display = L::Display>> Control for SideBySide<
+    L,
+    R,
+> as SideBySideControl {
     type Display = L::Display;
 
     ghost value = { λ p. side-by-side (L·Control .value (p .left)) (R·Control .value (p .right)) };
@@ -38,22 +48,38 @@ pub impl<L: Control, R: Control<Display = L::Display>> Control for SideBySide<L,
 
     fn states(&self) -> usize {
         let left = self.left.states();
-        if fit(&self.left, &self.right) { left * self.right.states() } else { left }
+        if fit(&self.left, &self.right) {
+            left * self.right.states()
+        } else {
+            left
+        }
     }
 
     fn commands(&self) -> usize {
         let left = self.left.commands();
-        if fit(&self.left, &self.right) { left + self.right.commands() } else { left }
+        if fit(&self.left, &self.right) {
+            left + self.right.commands()
+        } else {
+            left
+        }
     }
 
     fn consoles(&self) -> usize {
         let left = self.left.consoles();
-        if fit(&self.left, &self.right) { left + self.right.consoles() } else { left }
+        if fit(&self.left, &self.right) {
+            left + self.right.consoles()
+        } else {
+            left
+        }
     }
 
     fn start(&self) -> usize {
-        let left = self.left.start();
-        if fit(&self.left, &self.right) { left * self.right.states() + self.right.start() } else { left }
+        let row = self.left.start();
+        if fit(&self.left, &self.right) {
+            row * self.right.states() + self.right.start()
+        } else {
+            row
+        }
     }
 
     fn owner(&self, command: usize) -> usize {

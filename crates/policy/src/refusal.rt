@@ -13,7 +13,12 @@ pub enum Refusal {
     // a table's store has under 2,400 steps, 24 consoles or 1,200 displays
     TableStoreTooSmall,
     // a fault in a sheet: why, at which byte, on which line and in which block
-    Fault { cause: Cause, place: usize, line: usize, block: usize },
+    Fault {
+        cause: Cause,
+        place: usize,
+        line: usize,
+        block: usize,
+    },
     // the board has no console of that number
     NoSuchConsole,
     // the board has no command of that number
@@ -29,7 +34,9 @@ pub enum Refusal {
     // a board has 1 to 12 consoles and 1 to 24 commands
     BoardLimits,
     // an output is shorter than the sheet that is to be written into it
-    OutputTooShort { needed: usize },
+    OutputTooShort {
+        needed: usize,
+    },
 }
 
 // What a refusal tells: its number and, for a fault in a sheet, the place as a byte offset, the
@@ -47,7 +54,12 @@ impl Told {
     fn number_alone(number: usize) -> Told
         ensures { λ r. ⌜ r ≡ number-alone number ⌝ }
     {
-        Told { number, place: 0, line: 0, block: 0 }
+        Told {
+            number,
+            place: 0,
+            line: 0,
+            block: 0,
+        }
     }
 }
 
@@ -67,9 +79,24 @@ impl Refusal {
         ensures { λ r. ⌜ r ≡ told-of self ⌝ }
     {
         match self {
-            Refusal::SheetTooLong => Told { number: 1, place: 40960, line: 0, block: 0 },
+            Refusal::SheetTooLong => Told {
+                number: 1,
+                place: 40960,
+                line: 0,
+                block: 0,
+            },
             Refusal::TableStoreTooSmall => Told::number_alone(2),
-            Refusal::Fault { cause, place, line, block } => Told { number: cause_number(cause), place, line, block },
+            Refusal::Fault {
+                cause,
+                place,
+                line,
+                block,
+            } => Told {
+                number: cause_number(cause),
+                place,
+                line,
+                block,
+            },
             Refusal::NoSuchConsole => Told::number_alone(7),
             Refusal::NoSuchCommand => Told::number_alone(8),
             Refusal::SelfFlow => Told::number_alone(9),
@@ -77,7 +104,12 @@ impl Refusal {
             Refusal::DoesNotFit => Told::number_alone(11),
             Refusal::SequenceTooLong => Told::number_alone(14),
             Refusal::BoardLimits => Told::number_alone(15),
-            Refusal::OutputTooShort { needed } => Told { number: 16, place: needed, line: 0, block: 0 },
+            Refusal::OutputTooShort { needed } => Told {
+                number: 16,
+                place: needed,
+                line: 0,
+                block: 0,
+            },
         }
     }
 }

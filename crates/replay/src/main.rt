@@ -132,13 +132,25 @@ fn example_board(locked: &[u8]) -> Result<Board, Refusal> {
 
 fn answer(heap: Global, asked: &Asked) -> Result<Vec<u8>, Trouble> {
     let example = Example::new();
-    let store = Store { steps: &example.steps, owners: &example.owners, displays: &example.displays };
+    let store = Store {
+        steps: &example.steps,
+        owners: &example.owners,
+        displays: &example.displays,
+    };
     let table: Table<'_, Reading> = Table::new(Example::COUNTS, 0, store)?;
     let board = example_board(asked.locked.as_slice())?;
     let first = asked.first.as_slice();
     match asked.meaning {
         None => transcript(heap, &board, &table, first),
-        Some(meaning) => comparison(heap, &board, &table, meaning, usize::from(asked.console), first, asked.second.as_slice()),
+        Some(meaning) => comparison(
+            heap,
+            &board,
+            &table,
+            meaning,
+            usize::from(asked.console),
+            first,
+            asked.second.as_slice(),
+        ),
     }
 }
 

@@ -36,8 +36,8 @@ alike-said m k n F v u p q b =
 
 -- The verdict and the two outcomes, one after the other.
 pub whole-comparison : {D : Type 0} (mark : D → List ℕ) (v : ControlValue D) (L M N : Lockout) (m : Published) (u : ℕ) (F : Flow) (p q : List ℕ) {a b c d : List ℕ} (alike : Bool)
-  → a ≡ [] → alike ≡ published-meaning m .alike F (owner-of v) u p q → M ≡ L → N ≡ L
-  → b ≡ a ++ verdict m u alike → c ≡ b ++ outcome mark v M u (codes "first") p → d ≡ c ++ outcome mark v N u (codes "second") q → d ≡ compared mark v L m u F p q
+    → a ≡ [] → alike ≡ published-meaning m .alike F (owner-of v) u p q → M ≡ L → N ≡ L
+    → b ≡ a ++ verdict m u alike → c ≡ b ++ outcome mark v M u (codes "first") p → d ≡ c ++ outcome mark v N u (codes "second") q → d ≡ compared mark v L m u F p q
 whole-comparison mark v L M N m u F p q alike none says first-locks second-locks first second third =
     three-pieces [] (verdict m u alike) (outcome mark v M u (codes "first") p) (outcome mark v N u (codes "second") q) (first ∙ ap (λ x. x ++ verdict m u alike) none) second third
     ∙ ap (λ b. verdict m u b ++ (outcome mark v M u (codes "first") p ++ outcome mark v N u (codes "second") q)) says

@@ -38,8 +38,8 @@ upto-more x f n before after = then x (upto f n) (f n) before after ∙ sym (ap 
 -- One command's line more: command c at place i took state s to state t.
 module _ {D : Type 0} (mark : D → List ℕ) (v : ControlValue D) (L : Lockout) (p : List ℕ) (i s : ℕ) where
   pub lines-more : {b : List ℕ} (a x : List ℕ) (c t : ℕ) (locked : Bool) → i < length p → c ≡ getD p i 0 → locked ≡ L c → t ≡ moved (next-of v) L s c
-    → b ≡ a ++ line mark v (decimal (i + 1)) (decimal c) (effect-of locked) t → a ++ lines mark v L (i + 1) s (drop i p) ≡ x
-    → b ++ lines mark v L (i + 1 + 1) t (drop (i + 1) p) ≡ x
+      → b ≡ a ++ line mark v (decimal (i + 1)) (decimal c) (effect-of locked) t → a ++ lines mark v L (i + 1) s (drop i p) ≡ x
+      → b ++ lines mark v L (i + 1 + 1) t (drop (i + 1) p) ≡ x
   lines-more a x c t locked inside ec el et after before =
       let rest : ℕ → List ℕ = λ n. lines mark v L (i + 1 + 1) n (drop (i + 1) p) in
       let shown : Bool → ℕ → List ℕ = λ l n. line mark v (decimal (i + 1)) (decimal c) (effect-of l) n in
@@ -57,7 +57,7 @@ module _ {D : Type 0} (mark : D → List ℕ) (v : ControlValue D) (L : Lockout)
 
 -- The heading, the line of the start and the lines of the commands, one after the other.
 pub whole-text : {D : Type 0} (mark : D → List ℕ) (v : ControlValue D) (L M : Lockout) (p : List ℕ) {a b c d : List ℕ} (k s : ℕ) → a ≡ [] → k ≡ v .consoles → s ≡ v .start → M ≡ L
-  → b ≡ a ++ heading k → c ≡ b ++ line mark v (codes "start") [] [] s → d ≡ c ++ lines mark v M 1 (v .start) p → d ≡ transcript-text mark v L p
+    → b ≡ a ++ heading k → c ≡ b ++ line mark v (codes "start") [] [] s → d ≡ c ++ lines mark v M 1 (v .start) p → d ≡ transcript-text mark v L p
 whole-text mark v L M p k s none ek es em first second third =
     let begun = first ∙ ap (λ x. x ++ heading k) none ∙ ap heading ek in
     third

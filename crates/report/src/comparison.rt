@@ -36,26 +36,49 @@ pub fn name_of(meaning: Published) -> &'static str
     }
 }
 
-fn push_verdict(heap: Global, text: &mut Vec<u8>, meaning: Published, console: usize, alike: bool) -> Result<(), AllocError>
+fn push_verdict(
+    heap: Global,
+    text: &mut Vec<u8>,
+    meaning: Published,
+    console: usize,
+    alike: bool,
+) -> Result<(), AllocError>
     ensures { λ r. ⌜ made r (λ _. vec-items (now (text .exit)) ≡ vec-items (now (text .entry)) ++ verdict meaning console alike) ⌝ }
 {
     let name = name_of(meaning);
     let said = if alike {
-        format!(heap, "Under {name} the two sequences are alike for console {console}.\n")?
+        format!(
+            heap,
+            "Under {name} the two sequences are alike for console {console}.\n"
+        )?
     } else {
-        format!(heap, "Under {name} the two sequences are not alike for console {console}.\n")?
+        format!(
+            heap,
+            "Under {name} the two sequences are not alike for console {console}.\n"
+        )?
     };
     text.extend_from_slice(said.as_bytes())?;
     Ok(())
 }
 
 // What the console shows after a sequence.
-fn push_outcome<C: Control>(heap: Global, text: &mut Vec<u8>, control: &C, lockouts: &Lockouts, console: usize, which: &str, sequence: &[u8]) -> Result<(), AllocError>
+fn push_outcome<C: Control>(
+    heap: Global,
+    text: &mut Vec<u8>,
+    control: &C,
+    lockouts: &Lockouts,
+    console: usize,
+    which: &str,
+    sequence: &[u8],
+) -> Result<(), AllocError>
     ensures { λ r. ⌜ made r (λ _. vec-items (now (text .exit)) ≡ vec-items (now (text .entry)) ++ outcome (Display·DisplayKind .marked) (C·Control .value (now (control .entry))) (locks (now (lockouts .entry))) console (now (which .entry)) (now (sequence .entry))) ⌝ }
 {
     let state = walk(control, lockouts, sequence);
     let mark = control.display(state, console).mark();
-    let before = format!(heap, "After the {which} one the state is {state} and the console shows ")?;
+    let before = format!(
+        heap,
+        "After the {which} one the state is {state} and the console shows "
+    )?;
     text.extend_from_slice(before.as_bytes())?;
     text.extend_from_slice(mark.text())?;
     text.extend_from_slice(b".\n")?;
@@ -64,14 +87,38 @@ fn push_outcome<C: Control>(heap: Global, text: &mut Vec<u8>, control: &C, locko
 
 // Whether two sequences are alike for a console under a meaning, and what the console shows
 // after each; refused as the question itself is.
-pub fn comparison<C: Control>(heap: Global, board: &Board, control: &C, meaning: Published, console: usize, left: &[u8], right: &[u8]) -> Result<Vec<u8>, Trouble>
+pub fn comparison<C: Control>(
+    heap: Global,
+    board: &Board,
+    control: &C,
+    meaning: Published,
+    console: usize,
+    left: &[u8],
+    right: &[u8],
+) -> Result<Vec<u8>, Trouble>
     ensures text { λ r. ⌜ made r (λ t. vec-items t ≡ compared (Display·DisplayKind .marked) (C·Control .value (now (control .entry))) (locks (lockouts-of (now (board .entry)))) meaning console (may-affect (flows-of (now (board .entry)))) (now (left .entry)) (now (right .entry))) ⌝ }
     ensures refusals { λ r. ⌜ RefusedAs r (likeness-answer (published-meaning meaning) (consoles-of (flows-of (now (board .entry)))) (commands-of (lockouts-of (now (board .entry)))) (may-affect (flows-of (now (board .entry)))) (C·Control .value (now (control .entry))) console (now (left .entry)) (now (right .entry))) ⌝ }
 {
     let alike = likeness(board, control, &meaning, console, left, right)?;
     let mut text = Vec::new(heap);
     push_verdict(heap, &mut text, meaning, console, alike)?;
-    push_outcome(heap, &mut text, control, board.lockouts(), console, "first", left)?;
-    push_outcome(heap, &mut text, control, board.lockouts(), console, "second", right)?;
+    push_outcome(
+        heap,
+        &mut text,
+        control,
+        board.lockouts(),
+        console,
+        "first",
+        left,
+    )?;
+    push_outcome(
+        heap,
+        &mut text,
+        control,
+        board.lockouts(),
+        console,
+        "second",
+        right,
+    )?;
     Ok(text)
 }

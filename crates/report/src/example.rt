@@ -13,7 +13,11 @@ pub struct Example {
 }
 
 impl Example {
-    pub const COUNTS: Counts = Counts { states: 3, commands: 2, consoles: 3 };
+    pub const COUNTS: Counts = Counts {
+        states: 3,
+        commands: 2,
+        consoles: 3,
+    };
 
     pub fn new() -> Example
         ensures steps { λ r. ⌜ r .steps ≡ example-steps ⌝ }
@@ -30,6 +34,10 @@ impl Example {
         owners[1] = 1;
         let mut displays = [None; 1200];
         displays[8] = Some(215);
-        Example { steps, owners, displays }
+        Example {
+            steps,
+            owners,
+            displays,
+        }
     }
 }

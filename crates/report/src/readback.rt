@@ -11,7 +11,13 @@ use std::alloc::AllocError;
 use std::alloc::Global;
 
 // A line for the flow between two consoles, if there is one.
-fn push_flow(heap: Global, text: &mut Vec<u8>, flows: &Flows, from: usize, to: usize) -> Result<(), AllocError>
+fn push_flow(
+    heap: Global,
+    text: &mut Vec<u8>,
+    flows: &Flows,
+    from: usize,
+    to: usize,
+) -> Result<(), AllocError>
     ensures { λ r. ⌜ made r (λ _. vec-items (now (text .exit)) ≡ vec-items (now (text .entry)) ++ flow-line (may-affect (now (flows .entry))) from to) ⌝ }
 {
     if from != to && flows.may_affect(from, to) {
@@ -22,7 +28,12 @@ fn push_flow(heap: Global, text: &mut Vec<u8>, flows: &Flows, from: usize, to: u
 }
 
 // The flows from one console.
-fn push_flows_from(heap: Global, text: &mut Vec<u8>, flows: &Flows, from: usize) -> Result<(), AllocError>
+fn push_flows_from(
+    heap: Global,
+    text: &mut Vec<u8>,
+    flows: &Flows,
+    from: usize,
+) -> Result<(), AllocError>
     ensures { λ r. ⌜ made r (λ _. vec-items (now (text .exit)) ≡ vec-items (now (text .entry)) ++ upto (flow-line (may-affect (now (flows .entry))) from) (consoles-of (now (flows .entry)))) ⌝ }
 {
     for to in 0..flows.consoles() {
@@ -41,7 +52,13 @@ fn push_flows(heap: Global, text: &mut Vec<u8>, flows: &Flows) -> Result<(), All
 }
 
 // One of the consoles that may affect another.
-fn push_giver(heap: Global, text: &mut Vec<u8>, flows: &Flows, from: usize, to: usize) -> Result<(), AllocError>
+fn push_giver(
+    heap: Global,
+    text: &mut Vec<u8>,
+    flows: &Flows,
+    from: usize,
+    to: usize,
+) -> Result<(), AllocError>
     ensures { λ r. ⌜ made r (λ _. vec-items (now (text .exit)) ≡ vec-items (now (text .entry)) ++ giver (may-affect (now (flows .entry))) to from) ⌝ }
 {
     if from != to && flows.may_affect(from, to) {
@@ -61,7 +78,12 @@ fn push_givers(heap: Global, text: &mut Vec<u8>, flows: &Flows, to: usize) -> Re
 }
 
 // The line of one console: by whom it may be affected.
-fn push_givers_line(heap: Global, text: &mut Vec<u8>, flows: &Flows, to: usize) -> Result<(), AllocError>
+fn push_givers_line(
+    heap: Global,
+    text: &mut Vec<u8>,
+    flows: &Flows,
+    to: usize,
+) -> Result<(), AllocError>
     ensures { λ r. ⌜ made r (λ _. vec-items (now (text .exit)) ≡ vec-items (now (text .entry)) ++ givers-line (may-affect (now (flows .entry))) (consoles-of (now (flows .entry))) to) ⌝ }
 {
     let begun = format!(heap, "console {to} may be affected by itself")?;

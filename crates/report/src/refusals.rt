@@ -43,5 +43,8 @@ pub fn refusal_values(heap: Global, refusal: Refusal) -> Result<String, AllocErr
     let place = told.place;
     let line = told.line;
     let block = told.block;
-    format!(heap, "refusal place line block\n{number} {place} {line} {block}\n")
+    format!(
+        heap,
+        "refusal place line block\n{number} {place} {line} {block}\n"
+    )
 }

@@ -27,7 +27,12 @@ use policy::lockouts::Lockouts;
 use std::alloc::AllocError;
 use std::alloc::Global;
 
-fn push_number(heap: Global, text: &mut Vec<u8>, width: usize, number: usize) -> Result<(), AllocError>
+fn push_number(
+    heap: Global,
+    text: &mut Vec<u8>,
+    width: usize,
+    number: usize,
+) -> Result<(), AllocError>
     ensures { λ r. ⌜ made r (λ _. vec-items (now (text .exit)) ≡ vec-items (now (text .entry)) ++ padded width (decimal number)) ⌝ }
 {
     let word = format!(heap, "{number}")?;
@@ -36,7 +41,11 @@ fn push_number(heap: Global, text: &mut Vec<u8>, width: usize, number: usize) ->
 }
 
 // A column for each console with what it shows at `state`.
-fn push_displays<C: Control>(text: &mut Vec<u8>, control: &C, state: usize) -> Result<(), AllocError>
+fn push_displays<C: Control>(
+    text: &mut Vec<u8>,
+    control: &C,
+    state: usize,
+) -> Result<(), AllocError>
     ensures { λ r. ⌜ made r (λ _. vec-items (now (text .exit)) ≡ vec-items (now (text .entry)) ++ columns (λ u. Display·DisplayKind .marked (display-of (C·Control .value (now (control .entry))) state u)) (C·Control .value (now (control .entry)) .consoles)) ⌝ }
 {
     for console in 0..control.consoles() {
@@ -77,7 +86,13 @@ struct Words<'a> {
     effect: &'a [u8],
 }
 
-fn push_line<C: Control>(heap: Global, text: &mut Vec<u8>, control: &C, words: Words<'_>, state: usize) -> Result<(), AllocError>
+fn push_line<C: Control>(
+    heap: Global,
+    text: &mut Vec<u8>,
+    control: &C,
+    words: Words<'_>,
+    state: usize,
+) -> Result<(), AllocError>
     ensures { λ r. ⌜ made r (λ _. vec-items (now (text .exit)) ≡ vec-items (now (text .entry)) ++ line (Display·DisplayKind .marked) (C·Control .value (now (control .entry))) (behind (words .entry .step)) (behind (words .entry .command)) (behind (words .entry .effect)) state) ⌝ }
 {
     push_padded(text, 5, words.step)?;
@@ -96,12 +111,24 @@ fn effect(locked: bool) -> &'static [u8]
 }
 
 // The line of one command: its step, the command, whether it was locked, and the state after it.
-fn push_command<C: Control>(heap: Global, text: &mut Vec<u8>, control: &C, step: usize, command: usize, locked: bool, state: usize) -> Result<(), AllocError>
+fn push_command<C: Control>(
+    heap: Global,
+    text: &mut Vec<u8>,
+    control: &C,
+    step: usize,
+    command: usize,
+    locked: bool,
+    state: usize,
+) -> Result<(), AllocError>
     ensures { λ r. ⌜ made r (λ _. vec-items (now (text .exit)) ≡ vec-items (now (text .entry)) ++ line (Display·DisplayKind .marked) (C·Control .value (now (control .entry))) (decimal step) (decimal command) (effect-of locked) state) ⌝ }
 {
     let step = format!(heap, "{step}")?;
     let command = format!(heap, "{command}")?;
-    let words = Words { step: step.as_bytes(), command: command.as_bytes(), effect: effect(locked) };
+    let words = Words {
+        step: step.as_bytes(),
+        command: command.as_bytes(),
+        effect: effect(locked),
+    };
     push_line(heap, text, control, words, state)?;
     Ok(())
 }
@@ -115,28 +142,51 @@ fn push_closing(heap: Global, text: &mut Vec<u8>, state: usize) -> Result<(), Al
 }
 
 // The lines of all commands, run from the start, and the closing state.
-fn push_commands<C: Control>(heap: Global, text: &mut Vec<u8>, control: &C, lockouts: &Lockouts, sequence: &[u8]) -> Result<(), AllocError>
+fn push_commands<C: Control>(
+    heap: Global,
+    text: &mut Vec<u8>,
+    control: &C,
+    lockouts: &Lockouts,
+    sequence: &[u8],
+) -> Result<(), AllocError>
     ensures { λ r. ⌜ made r (λ _. vec-items (now (text .exit)) ≡ vec-items (now (text .entry)) ++ lines (Display·DisplayKind .marked) (C·Control .value (now (control .entry))) (locks (now (lockouts .entry))) 1 (C·Control .value (now (control .entry)) .start) (now (sequence .entry))) ⌝ }
 {
     let mut state = control.start();
     for (i, command) in sequence.iter().enumerate() {
         let command = usize::from(*command);
         state = give(control, lockouts, state, command);
-        push_command(heap, text, control, i + 1, command, lockouts.is_locked(command), state)?;
+        push_command(
+            heap,
+            text,
+            control,
+            i + 1,
+            command,
+            lockouts.is_locked(command),
+            state,
+        )?;
     }
     push_closing(heap, text, state)?;
     Ok(())
 }
 
 // The transcript of a sequence under a board's lockouts, refused as replay refuses it.
-pub fn transcript<C: Control>(heap: Global, board: &Board, control: &C, sequence: &[u8]) -> Result<Vec<u8>, Trouble>
+pub fn transcript<C: Control>(
+    heap: Global,
+    board: &Board,
+    control: &C,
+    sequence: &[u8],
+) -> Result<Vec<u8>, Trouble>
     ensures text { λ r. ⌜ made r (λ t. vec-items t ≡ transcript-text (Display·DisplayKind .marked) (C·Control .value (now (control .entry))) (locks (lockouts-of (now (board .entry)))) (now (sequence .entry))) ⌝ }
     ensures refusals { λ r. ⌜ RefusedAs r (replay-answer (consoles-of (flows-of (now (board .entry)))) (locks (lockouts-of (now (board .entry)))) (commands-of (lockouts-of (now (board .entry)))) (C·Control .value (now (control .entry))) (now (sequence .entry))) ⌝ }
 {
     replay(board, control, sequence)?;
     let mut text = Vec::new(heap);
     push_heading(heap, &mut text, control.consoles())?;
-    let start = Words { step: b"start", command: b"", effect: b"" };
+    let start = Words {
+        step: b"start",
+        command: b"",
+        effect: b"",
+    };
     push_line(heap, &mut text, control, start, control.start())?;
     push_commands(heap, &mut text, control, board.lockouts(), sequence)?;
     Ok(text)

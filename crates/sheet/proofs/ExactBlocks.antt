@@ -79,7 +79,7 @@ module _ {D : Type 0} (reads : List ℕ → Result D Cause) (c : Counted) (sheet
 
   -- the first row of those that were read, and the rest
   first-row : (r : Row) (rs : List Row) (line i j : ℕ) (e : Entries D) → rows-at reads c sheet (r ∷ rs) line i ≡ Ok (e, j)
-    → (w : Value D) × (k : ℕ) × (z : Entries D) × (value-at reads c sheet r i ≡ Ok (w, k)) × (rows-at reads c sheet rs (line + 1) k ≡ Ok (z, j)) × (with-value w z ≡ e)
+      → (w : Value D) × (k : ℕ) × (z : Entries D) × (value-at reads c sheet r i ≡ Ok (w, k)) × (rows-at reads c sheet rs (line + 1) k ≡ Ok (z, j)) × (with-value w z ≡ e)
   first-row r rs line i j e q =
       let y = on-ok (on-line line (block-of r) (value-at reads c sheet r i)) _ (e, j) q in
       let z = on-ok (rows-at reads c sheet rs (line + 1) (y .0 .1)) _ (e, j) (y .2) in
@@ -87,7 +87,7 @@ module _ {D : Type 0} (reads : List ℕ → Result D Cause) (c : Counted) (sheet
       (y .0 .0, y .0 .1, z .0 .0, on-line-ok line (block-of r) (value-at reads c sheet r i) (y .0) (y .1), z .1 ∙ ap (λ a. Ok (z .0 .0, a)) (p .1), p .0)
 
   pub title-knows : (b : ℕ) (ws : List (List ℕ)) → all-names ws ≡ true → (rest : List Row) (line i j : ℕ) (e : Entries D) → rows-at reads c sheet (title b ws ∷ rest) line i ≡ Ok (e, j)
-    → (k : ℕ) × (rows-at reads c sheet rest (line + 1) k ≡ Ok (e, j)) × (drop i sheet ≡ line-of ws ++ drop k sheet)
+      → (k : ℕ) × (rows-at reads c sheet rest (line + 1) k ≡ Ok (e, j)) × (drop i sheet ≡ line-of ws ++ drop k sheet)
   title-knows b ws n rest line i j e q =
       let t = first-row (title b ws) rest line i j e q in
       let y = on-ok (names-at ws sheet i) (λ k. Ok (nothing, k)) (t .0, t .1) (t .3) in

@@ -39,7 +39,7 @@ getD-tabulate a (suc n) f (suc i) d h = getD-tabulate (a + 1) n f i d (omega ari
 entries-tabulated : {A : Type 0} (xs : List A) (n : ℕ) (f : ℕ → A) (d : A) → length xs ≡ n → ((r : ℕ) → r < n → f r ≡ getD xs r d) → tabulate 0 n f ≡ xs
 entries-tabulated xs n f d l h =
     ext-getD d (tabulate 0 n f) xs (length-tabulate 0 n f ∙ sym l)
-      (λ i k. let small : i < n = omega (arith, length-tabulate 0 n f) in getD-tabulate 0 n f i d small ∙ ap f (omega arith) ∙ h i small)
+    (λ i k. let small : i < n = omega (arith, length-tabulate 0 n f) in getD-tabulate 0 n f i d small ∙ ap f (omega arith) ∙ h i small)
 
 due-there : {A : Type 0} (due : A → Type 0) (xs : List A) (i : ℕ) (d : A) → AllDue due xs → i < length xs → due (getD xs i d)
 due-there due [] i d all h = absurd (omega arith)
@@ -48,7 +48,7 @@ due-there due (x ∷ xs) (suc i) d all h = due-there due xs i d (all .1) (omega 
 
 module _ {D : Type 0} (kind : List ℕ) (mark : D → List ℕ) (v : ControlValue D) where
   block-text : {X : Type 0} (f : ℕ → Row) (text : ℕ → X → List ℕ) (g : ℕ → X) → ((r : ℕ) → row-text kind mark v (f r) ≡ text r (g r)) → (rest : List Row) (more : List ℕ) (a n : ℕ)
-    → rows-text kind mark v (tabulate a n f ++ rest) ++ more ≡ lines-from text a (tabulate a n g) ++ (rows-text kind mark v rest ++ more)
+      → rows-text kind mark v (tabulate a n f ++ rest) ++ more ≡ lines-from text a (tabulate a n g) ++ (rows-text kind mark v rest ++ more)
   block-text f text g h rest more a zero = refl
   block-text f text g h rest more a (suc n) =
       append-assoc (row-text kind mark v (f a)) (rows-text kind mark v (tabulate (a + 1) n f ++ rest)) more
@@ -118,9 +118,9 @@ module _ {D : Type 0} (absent : D) (x : Sheet D) (due : SheetDue x) where
     starts = due .counts .3;
     owned = λ c h. below (getD (x .entries .owners) c 0) (x .counted .consoles) (due .counts .2 .0) (due-there (Below (x .counted .consoles)) (x .entries .owners) c 0 (due .tables .owners-due) (omega (arith, due .tables .owners-many)));
     stays = λ s c h k.
-      let i : ℕ = s * x .counted .commands + c in
-      let there : i < length (x .entries .steps) = omega (arith, due .tables .steps-many, mul-add-lt s (x .counted .commands) c (x .counted .states) h k) in
-      below (getD (x .entries .steps) i 0) (x .counted .states) (due .counts .0 .0) (due-there (Below (x .counted .states)) (x .entries .steps) i 0 (due .tables .steps-due) there);
+        let i : ℕ = s * x .counted .commands + c in
+        let there : i < length (x .entries .steps) = omega (arith, due .tables .steps-many, mul-add-lt s (x .counted .commands) c (x .counted .states) h k) in
+        below (getD (x .entries .steps) i 0) (x .counted .states) (due .counts .0 .0) (due-there (Below (x .counted .states)) (x .entries .steps) i 0 (due .tables .steps-due) there);
   }
     where
       below : (w n : ℕ) → 1 ≤ n → Below n w → w < n
@@ -133,11 +133,11 @@ module _ {D : Type 0} (absent : D) (x : Sheet D) (due : SheetDue x) where
   said-within u v e =
       let k : ℕ = x .counted .consoles in
       ⊎-elim
-        (λ (s : (eqb u v && ltb u k) ≡ true). let p = and-parts (eqb u v) (ltb u k) s in (ltb-true u k (p .1), omega (arith, eqb-true u v (p .0), ltb-true u k (p .1))))
-        (λ (s : (ltb v k && among (u * k + v) (x .flows)) ≡ true).
-          let p = and-parts (ltb v k) (among (u * k + v) (x .flows)) s in
-          (row u v k (among-within k 0 (x .flows) (u * k + v) (due .pairs) (p .1)), ltb-true v k (p .0)))
-        (or-cases (eqb u v && ltb u k) (ltb v k && among (u * k + v) (x .flows)) e)
+      (λ (s : (eqb u v && ltb u k) ≡ true). let p = and-parts (eqb u v) (ltb u k) s in (ltb-true u k (p .1), omega (arith, eqb-true u v (p .0), ltb-true u k (p .1))))
+      (λ (s : (ltb v k && among (u * k + v) (x .flows)) ≡ true).
+      let p = and-parts (ltb v k) (among (u * k + v) (x .flows)) s in
+      (row u v k (among-within k 0 (x .flows) (u * k + v) (due .pairs) (p .1)), ltb-true v k (p .0)))
+      (or-cases (eqb u v && ltb u k) (ltb v k && among (u * k + v) (x .flows)) e)
     where
       row : (u v k : ℕ) → u * k + v < k * k → u < k
       row u v k h = ⊎-elim (λ (l : u < k). l) (λ (l : k ≤ u). absurd (omega (arith, mul-le k k u k l (omega arith)))) (cases-lt u k)

@@ -66,22 +66,22 @@ module _ (k : ℕ) (counts : Count most-consoles k) (sheet : List ℕ) where
   pub flows-sound : (room low line i : ℕ) (ps : List ℕ) → flows-at k sheet room low line i ≡ Ok ps → ListedFrom k low ps × (drop i sheet ≡ flows-text k ps)
   flows-sound zero low line i ps e =
       ⊎-elim
-        (λ (d : (leb (length sheet) i ≡ true) × ([] ≡ ps)). subst (λ (l : List ℕ). ListedFrom k low l × (drop i sheet ≡ flows-text k l)) (d .1) (tt, drop-all i sheet (leb-true (length sheet) i (d .0))))
-        (λ d. let y = on-ok (on-line line 5 (flow-at k sheet i)) _ ps (d .1) in let n = y .2 in grind arith)
-        (cond-ok (leb (length sheet) i) [] _ ps e)
+      (λ (d : (leb (length sheet) i ≡ true) × ([] ≡ ps)). subst (λ (l : List ℕ). ListedFrom k low l × (drop i sheet ≡ flows-text k l)) (d .1) (tt, drop-all i sheet (leb-true (length sheet) i (d .0))))
+      (λ d. let y = on-ok (on-line line 5 (flow-at k sheet i)) _ ps (d .1) in let n = y .2 in grind arith)
+      (cond-ok (leb (length sheet) i) [] _ ps e)
   flows-sound (suc room) low line i ps e =
       ⊎-elim
-        (λ (d : (leb (length sheet) i ≡ true) × ([] ≡ ps)). subst (λ (l : List ℕ). ListedFrom k low l × (drop i sheet ≡ flows-text k l)) (d .1) (tt, drop-all i sheet (leb-true (length sheet) i (d .0))))
-        (λ d.
-          let y = on-ok (on-line line 5 (flow-at k sheet i)) _ ps (d .1) in
-          let c = cond-pass (may-come k low (y .0 .0)) _ _ ps (y .2) in
-          let r = on-ok (flows-at k sheet room (y .0 .0 + 1) (line + 1) (y .0 .1)) _ ps (c .1) in
-          let f = flow-exactly k counts sheet .knows i (y .0 .1) (y .0 .0) (on-line-ok line 5 (flow-at k sheet i) (y .0) (y .1)) in
-          let m = came low (y .0 .0) (y .0 .0 / k) (y .0 .0 % k) (c .0) in
-          let s = flows-sound room (y .0 .0 + 1) (line + 1) (y .0 .1) (r .0) (r .1) in
-          subst (λ (l : List ℕ). ListedFrom k low l × (drop i sheet ≡ flows-text k l)) (ok-same (y .0 .0 ∷ r .0) ps (r .2))
-            ((m .0, f .0, m .1, s .0), f .1 ∙ ap (λ l. flow-line k (y .0 .0) ++ l) (s .1)))
-        (cond-ok (leb (length sheet) i) [] _ ps e)
+      (λ (d : (leb (length sheet) i ≡ true) × ([] ≡ ps)). subst (λ (l : List ℕ). ListedFrom k low l × (drop i sheet ≡ flows-text k l)) (d .1) (tt, drop-all i sheet (leb-true (length sheet) i (d .0))))
+      (λ d.
+      let y = on-ok (on-line line 5 (flow-at k sheet i)) _ ps (d .1) in
+      let c = cond-pass (may-come k low (y .0 .0)) _ _ ps (y .2) in
+      let r = on-ok (flows-at k sheet room (y .0 .0 + 1) (line + 1) (y .0 .1)) _ ps (c .1) in
+      let f = flow-exactly k counts sheet .knows i (y .0 .1) (y .0 .0) (on-line-ok line 5 (flow-at k sheet i) (y .0) (y .1)) in
+      let m = came low (y .0 .0) (y .0 .0 / k) (y .0 .0 % k) (c .0) in
+      let s = flows-sound room (y .0 .0 + 1) (line + 1) (y .0 .1) (r .0) (r .1) in
+      subst (λ (l : List ℕ). ListedFrom k low l × (drop i sheet ≡ flows-text k l)) (ok-same (y .0 .0 ∷ r .0) ps (r .2))
+      ((m .0, f .0, m .1, s .0), f .1 ∙ ap (λ l. flow-line k (y .0 .0) ++ l) (s .1)))
+      (cond-ok (leb (length sheet) i) [] _ ps e)
 
 -- pairs that may be listed from a later one on may be listed from an earlier one on
 listed-earlier : (k low below : ℕ) (ps : List ℕ) → below ≤ low → ListedFrom k low ps → ListedFrom k below ps
@@ -128,15 +128,15 @@ module _ (k : ℕ) (f : ℕ → Bool) where
       cond-false (f a) _ _ (same a (omega arith) (omega arith)) ∙ kept-are (a + 1) n [] tt (omega arith) (λ p low high. same p (omega arith) high)
   kept-are a (suc n) (p ∷ ps) l h same =
       ⊎-elim
-        (λ (q : a ≡ p).
-          cond-true (f a) _ _ (same a (omega arith) (omega arith) ∙ or-left (eqb a p) (among a ps) (eq-eqb a p q))
-          ∙ ap (λ r. a ∷ r) (kept-are (a + 1) n ps (listed-earlier k (p + 1) (a + 1) ps (omega arith) (l .3)) (omega arith) (λ r low high. same r (omega arith) high ∙ other r p (among r ps) (λ e. omega arith)))
-          ∙ ap (λ r. r ∷ ps) q)
-        (λ (q : a ≡ p → ⊥).
-          let later : a + 1 ≤ p = above a p (l .0) q in
-          cond-false (f a) _ _ (same a (omega arith) (omega arith) ∙ among-below k (a + 1) (p ∷ ps) a (later, l .1, l .2, l .3) (omega arith))
-          ∙ kept-are (a + 1) n (p ∷ ps) (later, l .1, l .2, l .3) (omega arith) (λ r low high. same r (omega arith) high))
-        (cases-eq a p)
+      (λ (q : a ≡ p).
+      cond-true (f a) _ _ (same a (omega arith) (omega arith) ∙ or-left (eqb a p) (among a ps) (eq-eqb a p q))
+      ∙ ap (λ r. a ∷ r) (kept-are (a + 1) n ps (listed-earlier k (p + 1) (a + 1) ps (omega arith) (l .3)) (omega arith) (λ r low high. same r (omega arith) high ∙ other r p (among r ps) (λ e. omega arith)))
+      ∙ ap (λ r. r ∷ ps) q)
+      (λ (q : a ≡ p → ⊥).
+      let later : a + 1 ≤ p = above a p (l .0) q in
+      cond-false (f a) _ _ (same a (omega arith) (omega arith) ∙ among-below k (a + 1) (p ∷ ps) a (later, l .1, l .2, l .3) (omega arith))
+      ∙ kept-are (a + 1) n (p ∷ ps) (later, l .1, l .2, l .3) (omega arith) (λ r low high. same r (omega arith) high))
+      (cases-eq a p)
     where
       other : (r p : ℕ) (t : Bool) → (r ≡ p → ⊥) → (eqb r p || t) ≡ t
       other r p t h = grind (arith, tells)

@@ -118,5 +118,5 @@ module _ {A : Type 0} (reads : List ℕ → Result A Cause) (b : ℕ) (sheet : L
       let p = ok-pair (m .0 .0) x (c .0) j (c .2) in
       let k = mark-sound reads sheet i (m .0 .0) (m .0 .1) (m .1) in
       let rest : drop (length (run-of (drop i sheet))) (drop i sheet) ≡ b ∷ drop j sheet =
-          drop-drop (length (run-of (drop i sheet))) i sheet ∙ ap (λ n. drop n sheet) (sym (k .1)) ∙ byte-sound b sheet (m .0 .1) (c .0) (c .1) ∙ ap (λ n. b ∷ drop n sheet) (p .1) in
+      drop-drop (length (run-of (drop i sheet))) i sheet ∙ ap (λ n. drop n sheet) (sym (k .1)) ∙ byte-sound b sheet (m .0 .1) (c .0) (c .1) ∙ ap (λ n. b ∷ drop n sheet) (p .1) in
       (run-of (drop i sheet), k .0 ∙ ap Ok (p .0), run-first (drop i sheet) ∙ ap (λ l. run-of (drop i sheet) ++ l) rest)

@@ -83,11 +83,13 @@ module _ {A : Type 0} {reads : List ℕ → Result A Cause} {due : A → Type 0}
       let y = on-ok (exacts-at (n ∷ ns) sheet i) (item-at reads newline sheet) (x, j) e in
       let z = on-ok (item-at (exact-reads n) blank sheet i) (λ a. exacts-at ns sheet (a .1)) (y .0) (y .1) in
       let k = due-known (exact-due n (small .0)) blank sheet i (z .0 .0) (z .0 .1) (z .1) in
-      let r = row-sound ns (small .1) (z .0 .1) j x (ap (λ a. on a (item-at reads newline sheet)) (z .2) ∙ y .2) in
-      (r .0, k .1
-        ∙ ap (λ a. decimal a ++ (blank ∷ drop (z .0 .1) sheet)) (k .0)
-        ∙ ap (λ l. decimal n ++ (blank ∷ l)) (r .1)
-        ∙ sym (append-assoc (decimal n) (blank ∷ row-line ns (text x)) (drop j sheet)))
+      let r = row-sound ns (small .1) (z .0 .1) j x (ap (λ a. on a (item-at reads newline sheet)) (z .2) ∙ y .2) in (
+        r .0,
+        k .1
+            ∙ ap (λ a. decimal a ++ (blank ∷ drop (z .0 .1) sheet)) (k .0)
+            ∙ ap (λ l. decimal n ++ (blank ∷ l)) (r .1)
+            ∙ sym (append-assoc (decimal n) (blank ∷ row-line ns (text x)) (drop j sheet)),
+      )
 
   pub row-exactly : (ns : List ℕ) → Small ns → Exactly sheet (row-at ns reads sheet) due (λ x. row-line ns (text x))
   row-exactly ns small = record { reads = row-complete ns small; knows = row-sound ns small }
@@ -137,21 +139,21 @@ module _ (kind : List ℕ) (named : is-name kind ≡ true) (sheet : List ℕ) wh
       let states = due-known states-due blank sheet i (n .0 .0) (n .0 .1) (n .1) in
       let first : Counted = record { states = n .0 .0; commands = m .0 .0; consoles = k .0 .0; start = s .0 .0 } in
       let all = told first (n .0 .1) (m .0 .1) (k .0 .1) (s .0 .1) (y .0 .1)
-          states
-          (due-known commands-due blank sheet (n .0 .1) (m .0 .0) (m .0 .1) (m .1))
-          (due-known consoles-due blank sheet (m .0 .1) (k .0 .0) (k .0 .1) (k .1))
-          (due-known (start-due (n .0 .0) (states .0 .1)) blank sheet (k .0 .1) (s .0 .0) (s .0 .1) (s .1))
-          (due-known (name-due kind named) newline sheet (s .0 .1) (y .0 .0) (y .0 .1) (y .1) .1) in
+      states
+      (due-known commands-due blank sheet (n .0 .1) (m .0 .0) (m .0 .1) (m .1))
+      (due-known consoles-due blank sheet (m .0 .1) (k .0 .0) (k .0 .1) (k .1))
+      (due-known (start-due (n .0 .0) (states .0 .1)) blank sheet (k .0 .1) (s .0 .0) (s .0 .1) (s .1))
+      (due-known (name-due kind named) newline sheet (s .0 .1) (y .0 .0) (y .0 .1) (y .1) .1) in
       subst (λ (a : Counted). CountsDue a × (drop i sheet ≡ counts-line kind a ++ drop j sheet)) (p .0)
-        (subst (λ (a : ℕ). CountsDue first × (drop i sheet ≡ counts-line kind first ++ drop a sheet)) (p .1) all)
+      (subst (λ (a : ℕ). CountsDue first × (drop i sheet ≡ counts-line kind first ++ drop a sheet)) (p .1) all)
     where
       told : (c : Counted) (i1 i2 i3 i4 i5 : ℕ)
-        → ((1 ≤ c .states) × (c .states ≤ most-states)) × (drop i sheet ≡ decimal (c .states) ++ (blank ∷ drop i1 sheet))
-        → ((1 ≤ c .commands) × (c .commands ≤ most-commands)) × (drop i1 sheet ≡ decimal (c .commands) ++ (blank ∷ drop i2 sheet))
-        → ((1 ≤ c .consoles) × (c .consoles ≤ most-consoles)) × (drop i2 sheet ≡ decimal (c .consoles) ++ (blank ∷ drop i3 sheet))
-        → ((0 ≤ c .start) × (c .start ≤ c .states - 1)) × (drop i3 sheet ≡ decimal (c .start) ++ (blank ∷ drop i4 sheet))
-        → drop i4 sheet ≡ kind ++ (newline ∷ drop i5 sheet)
-        → CountsDue c × (drop i sheet ≡ counts-line kind c ++ drop i5 sheet)
+          → ((1 ≤ c .states) × (c .states ≤ most-states)) × (drop i sheet ≡ decimal (c .states) ++ (blank ∷ drop i1 sheet))
+          → ((1 ≤ c .commands) × (c .commands ≤ most-commands)) × (drop i1 sheet ≡ decimal (c .commands) ++ (blank ∷ drop i2 sheet))
+          → ((1 ≤ c .consoles) × (c .consoles ≤ most-consoles)) × (drop i2 sheet ≡ decimal (c .consoles) ++ (blank ∷ drop i3 sheet))
+          → ((0 ≤ c .start) × (c .start ≤ c .states - 1)) × (drop i3 sheet ≡ decimal (c .start) ++ (blank ∷ drop i4 sheet))
+          → drop i4 sheet ≡ kind ++ (newline ∷ drop i5 sheet)
+          → CountsDue c × (drop i sheet ≡ counts-line kind c ++ drop i5 sheet)
       told c i1 i2 i3 i4 i5 n m k s y =
           let fifth : List ℕ = line-of (kind ∷ []) in
           let fourth : List ℕ = decimal (c .start) ++ (blank ∷ fifth) in
@@ -194,12 +196,13 @@ module _ (k : ℕ) (counts : Count most-consoles k) (sheet : List ℕ) where
           let a-small : a < k = omega (arith, u .0 .1, counts .0) in
           let b-small : b < k = omega (arith, v .0 .1, counts .0) in
           let from : a ≡ p / k = sym (div-mul-add a k b b-small) ∙ ap (λ n. n / k) (q .0) in
-          let to : b ≡ p % k = sym (mod-mul-add a k b b-small) ∙ ap (λ n. n % k) (q .0) in
-          (omega (arith, mul-add-lt a k b k a-small b-small, q .0),
-           u .1
-           ∙ ap (λ n. decimal n ++ (blank ∷ drop i2 sheet)) from
-           ∙ ap (λ l. decimal (p / k) ++ (blank ∷ l)) (v .1 ∙ ap (λ n. decimal n ++ (newline ∷ drop i3 sheet)) to ∙ ap (λ n. decimal (p % k) ++ (newline ∷ drop n sheet)) (q .1) ∙ sym (append-assoc (decimal (p % k)) (newline ∷ []) (drop j sheet)))
-           ∙ sym (append-assoc (decimal (p / k)) (blank ∷ line-of (decimal (p % k) ∷ [])) (drop j sheet)))
+          let to : b ≡ p % k = sym (mod-mul-add a k b b-small) ∙ ap (λ n. n % k) (q .0) in (
+            omega (arith, mul-add-lt a k b k a-small b-small, q .0),
+            u .1
+                ∙ ap (λ n. decimal n ++ (blank ∷ drop i2 sheet)) from
+                ∙ ap (λ l. decimal (p / k) ++ (blank ∷ l)) (v .1 ∙ ap (λ n. decimal n ++ (newline ∷ drop i3 sheet)) to ∙ ap (λ n. decimal (p % k) ++ (newline ∷ drop n sheet)) (q .1) ∙ sym (append-assoc (decimal (p % k)) (newline ∷ []) (drop j sheet)))
+                ∙ sym (append-assoc (decimal (p / k)) (blank ∷ line-of (decimal (p % k) ∷ [])) (drop j sheet)),
+          )
 
   pub flow-exactly : Exactly sheet (flow-at k sheet) (λ p. p < k * k) (flow-line k)
   flow-exactly = record { reads = flow-complete; knows = flow-sound }

@@ -137,16 +137,16 @@ module _ {D : Type 0} {kind : List ℕ} {mark : D → List ℕ} {reads : List �
   pub plan-reads : (e : Entries D) → EntriesDue c e → (more : List ℕ) → GoesOn reads c sheet (plan-of c) e (plan-lines mark c e more) more
   plan-reads e h more =
       subst (λ (a : Entries D). GoesOn reads c sheet (plan-of c) a (plan-lines mark c e more) more) (all-added (e .owners) (e .steps) (e .displays))
-        (title-reads reads c sheet 2 (names-of owners-title) refl (owners-on c) _ _ more
-          (block-reads reads c sheet (owners-rowed laws c due sheet) (steps-title ∷ steps-on c) _ _ more
-            (title-reads reads c sheet 3 (names-of steps-title) refl (steps-on c) _ _ more
-              (block-reads reads c sheet (steps-rowed laws c due sheet) (displays-title ∷ displays-on c) _ _ more
-                (title-reads reads c sheet 4 (names-of displays-title) refl (displays-on c) _ _ more
-                  (block-reads reads c sheet (displays-rowed laws c due sheet) (flows-title ∷ []) _ _ more
-                    (title-reads reads c sheet 5 (names-of flows-title) refl [] no-entries more more (λ line i s. (i, refl, s)))
-                    0 (c .states * c .consoles) (e .displays) (h .displays-many) (omega arith) (h .displays-due)))
-                0 (c .states * c .commands) (e .steps) (h .steps-many) (omega arith) (h .steps-due)))
-            0 (c .commands) (e .owners) (h .owners-many) (omega arith) (h .owners-due)))
+      (title-reads reads c sheet 2 (names-of owners-title) refl (owners-on c) _ _ more
+      (block-reads reads c sheet (owners-rowed laws c due sheet) (steps-title ∷ steps-on c) _ _ more
+      (title-reads reads c sheet 3 (names-of steps-title) refl (steps-on c) _ _ more
+      (block-reads reads c sheet (steps-rowed laws c due sheet) (displays-title ∷ displays-on c) _ _ more
+      (title-reads reads c sheet 4 (names-of displays-title) refl (displays-on c) _ _ more
+      (block-reads reads c sheet (displays-rowed laws c due sheet) (flows-title ∷ []) _ _ more
+      (title-reads reads c sheet 5 (names-of flows-title) refl [] no-entries more more (λ line i s. (i, refl, s)))
+      0 (c .states * c .consoles) (e .displays) (h .displays-many) (omega arith) (h .displays-due)))
+      0 (c .states * c .commands) (e .steps) (h .steps-many) (omega arith) (h .steps-due)))
+      0 (c .commands) (e .owners) (h .owners-many) (omega arith) (h .owners-due)))
 
   pub plan-knows : (line i j : ℕ) (e : Entries D) → rows-at reads c sheet (plan-of c) line i ≡ Ok (e, j) → EntriesDue c e × (drop i sheet ≡ plan-lines mark c e (drop j sheet))
   plan-knows line i j e q =
@@ -159,34 +159,34 @@ module _ {D : Type 0} {kind : List ℕ} {mark : D → List ℕ} {reads : List �
       let t5 = title-knows reads c sheet 5 (names-of flows-title) refl [] (ds .line) (ds .place) j (ds .others) (ds .goes-on) in
       let p = ok-pair no-entries (ds .others) (t5 .0) j (t5 .1) in
       told (os .values) (ss .values) (ds .values) (os .others) (ss .others) (ds .others) (t2 .0) (os .place) (t3 .0) (ss .place) (t4 .0) (ds .place) (t5 .0)
-        (os .many) (ss .many) (ds .many) (os .all) (ss .all) (ds .all) (os .entries) (ss .entries) (ds .entries) (p .0) (p .1)
-        (t2 .2) (os .stands) (t3 .2) (ss .stands) (t4 .2) (ds .stands) (t5 .2)
+      (os .many) (ss .many) (ds .many) (os .all) (ss .all) (ds .all) (os .entries) (ss .entries) (ds .entries) (p .0) (p .1)
+      (t2 .2) (os .stands) (t3 .2) (ss .stands) (t4 .2) (ds .stands) (t5 .2)
     where
       told : (os ss : List ℕ) (ds : List D) (e1 e2 e3 : Entries D) (i1 i2 i3 i4 i5 i6 i7 : ℕ)
-        → length os ≡ c .commands → length ss ≡ c .states * c .commands → length ds ≡ c .states * c .consoles
-        → AllDue (Below (c .consoles)) os → AllDue (Below (c .states)) ss → AllDue (λ d. Unit {0}) ds
-        → added owned os e1 ≡ e → added stepped ss e2 ≡ e1 → added showed ds e3 ≡ e2 → no-entries ≡ e3 → i7 ≡ j
-        → drop i sheet ≡ line-of (names-of owners-title) ++ drop i1 sheet
-        → drop i1 sheet ≡ lines-from owner-line 0 os ++ drop i2 sheet
-        → drop i2 sheet ≡ line-of (names-of steps-title) ++ drop i3 sheet
-        → drop i3 sheet ≡ lines-from (step-line (c .commands)) 0 ss ++ drop i4 sheet
-        → drop i4 sheet ≡ line-of (names-of displays-title) ++ drop i5 sheet
-        → drop i5 sheet ≡ lines-from (shown-line mark (c .consoles)) 0 ds ++ drop i6 sheet
-        → drop i6 sheet ≡ line-of (names-of flows-title) ++ drop i7 sheet
-        → EntriesDue c e × (drop i sheet ≡ plan-lines mark c e (drop j sheet))
+          → length os ≡ c .commands → length ss ≡ c .states * c .commands → length ds ≡ c .states * c .consoles
+          → AllDue (Below (c .consoles)) os → AllDue (Below (c .states)) ss → AllDue (λ d. Unit {0}) ds
+          → added owned os e1 ≡ e → added stepped ss e2 ≡ e1 → added showed ds e3 ≡ e2 → no-entries ≡ e3 → i7 ≡ j
+          → drop i sheet ≡ line-of (names-of owners-title) ++ drop i1 sheet
+          → drop i1 sheet ≡ lines-from owner-line 0 os ++ drop i2 sheet
+          → drop i2 sheet ≡ line-of (names-of steps-title) ++ drop i3 sheet
+          → drop i3 sheet ≡ lines-from (step-line (c .commands)) 0 ss ++ drop i4 sheet
+          → drop i4 sheet ≡ line-of (names-of displays-title) ++ drop i5 sheet
+          → drop i5 sheet ≡ lines-from (shown-line mark (c .consoles)) 0 ds ++ drop i6 sheet
+          → drop i6 sheet ≡ line-of (names-of flows-title) ++ drop i7 sheet
+          → EntriesDue c e × (drop i sheet ≡ plan-lines mark c e (drop j sheet))
       told os ss ds e1 e2 e3 i1 i2 i3 i4 i5 i6 i7 om sm dm oa sa da oe se de none last s1 s2 s3 s4 s5 s6 s7 =
           let all : Entries D = record { owners = os; steps = ss; displays = ds } in
           let same : all ≡ e = sym (all-added os ss ds) ∙ ap (λ a. added owned os (added stepped ss (added showed ds a))) none ∙ ap (λ a. added owned os (added stepped ss a)) de ∙ ap (added owned os) se ∙ oe in
           let stands : drop i sheet ≡ plan-lines mark c all (drop j sheet) =
-              s1 ∙ ap (λ l. line-of (names-of owners-title) ++ l)
-              (s2 ∙ ap (λ l. lines-from owner-line 0 os ++ l)
-              (s3 ∙ ap (λ l. line-of (names-of steps-title) ++ l)
-              (s4 ∙ ap (λ l. lines-from (step-line (c .commands)) 0 ss ++ l)
-              (s5 ∙ ap (λ l. line-of (names-of displays-title) ++ l)
-              (s6 ∙ ap (λ l. lines-from (shown-line mark (c .consoles)) 0 ds ++ l)
-              (s7 ∙ ap (λ k. line-of (names-of flows-title) ++ drop k sheet) last)))))) in
+          s1 ∙ ap (λ l. line-of (names-of owners-title) ++ l)
+          (s2 ∙ ap (λ l. lines-from owner-line 0 os ++ l)
+          (s3 ∙ ap (λ l. line-of (names-of steps-title) ++ l)
+          (s4 ∙ ap (λ l. lines-from (step-line (c .commands)) 0 ss ++ l)
+          (s5 ∙ ap (λ l. line-of (names-of displays-title) ++ l)
+          (s6 ∙ ap (λ l. lines-from (shown-line mark (c .consoles)) 0 ds ++ l)
+          (s7 ∙ ap (λ k. line-of (names-of flows-title) ++ drop k sheet) last)))))) in
           subst (λ (a : Entries D). EntriesDue c a × (drop i sheet ≡ plan-lines mark c a (drop j sheet))) same
-            (record { owners-many = om; steps-many = sm; displays-many = dm; owners-due = oa; steps-due = sa; displays-due = da }, stands)
+          (record { owners-many = om; steps-many = sm; displays-many = dm; owners-due = oa; steps-due = sa; displays-due = da }, stands)
 
 -- what a sheet says keeps the limits, is in range and lists its flows in order
 pub record SheetDue {D : Type 0} (x : Sheet D) : Type 0 where
@@ -236,11 +236,11 @@ module _ {D : Type 0} {kind : List ℕ} {mark : D → List ℕ} {reads : List �
       told (c .0 .0) (r .0 .0) (f .0) (t .0 .1) (c .0 .1) (r .0 .1) (ok-same (record { counted = c .0 .0; entries = r .0 .0; flows = f .0 }) x (f .2)) (counts .0) (rows .0) (flows .0) first (counts .1) (rows .1) (flows .1)
     where
       told : (c : Counted) (e : Entries D) (ps : List ℕ) (i1 i2 i3 : ℕ) → record { counted = c; entries = e; flows = ps } ≡ x → CountsDue c → EntriesDue c e → ListedFrom (c .consoles) 0 ps
-        → sheet ≡ line-of (names-of counts-title) ++ drop i1 sheet
-        → drop i1 sheet ≡ counts-line kind c ++ drop i2 sheet
-        → drop i2 sheet ≡ plan-lines mark c e (drop i3 sheet)
-        → drop i3 sheet ≡ flows-text (c .consoles) ps
-        → SheetDue x × (sheet ≡ whole-text kind mark x)
+          → sheet ≡ line-of (names-of counts-title) ++ drop i1 sheet
+          → drop i1 sheet ≡ counts-line kind c ++ drop i2 sheet
+          → drop i2 sheet ≡ plan-lines mark c e (drop i3 sheet)
+          → drop i3 sheet ≡ flows-text (c .consoles) ps
+          → SheetDue x × (sheet ≡ whole-text kind mark x)
       told c e ps i1 i2 i3 same dc de dp s1 s2 s3 s4 =
           subst (λ (a : Sheet D). SheetDue a × (sheet ≡ whole-text kind mark a)) same
-            (record { counts = dc; tables = de; pairs = dp }, s1 ∙ ap (λ l. line-of (names-of counts-title) ++ l) (s2 ∙ ap (λ l. counts-line kind c ++ l) (s3 ∙ ap (plan-lines mark c e) s4)))
+          (record { counts = dc; tables = de; pairs = dp }, s1 ∙ ap (λ l. line-of (names-of counts-title) ++ l) (s2 ∙ ap (λ l. counts-line kind c ++ l) (s3 ∙ ap (plan-lines mark c e) s4)))

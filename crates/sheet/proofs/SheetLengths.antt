@@ -39,7 +39,7 @@ three-digits n h = length-decimal-le 3 n (omega arith) (omega arith) (omega arit
 module _ {D : Type 0} (kind : List ℕ) (mark : D → List ℕ) (v : ControlValue D) where
   -- rows of at most b bytes each
   block-length : (f : ℕ → Row) (b : ℕ) (rest : List Row) (a n : ℕ) → ((r : ℕ) → r < a + n → length (row-text kind mark v (f r)) ≤ b)
-    → length (rows-text kind mark v (tabulate a n f ++ rest)) ≤ n * b + length (rows-text kind mark v rest)
+      → length (rows-text kind mark v (tabulate a n f ++ rest)) ≤ n * b + length (rows-text kind mark v rest)
   block-length f b rest a zero h = omega arith
   block-length f b rest a (suc n) h =
       omega (arith, length-append (row-text kind mark v (f a)) (rows-text kind mark v (tabulate (a + 1) n f ++ rest)), h a (omega arith), block-length f b rest (a + 1) n (λ r l. h r (omega arith)))
@@ -93,13 +93,13 @@ module _ {D : Type 0} {kind : List ℕ} {mark : D → List ℕ} {reads : List �
   plan-length =
       let c : Counted = counts-of v in
       added
-        (title-length kind mark v 2 (names-of owners-title) (owners-on c))
-        (block-length kind mark v owner 6 (steps-title ∷ steps-on c) 0 (v .commands) (λ r h. owner-length r (omega arith)))
-        (title-length kind mark v 3 (names-of steps-title) (steps-on c))
-        (block-length kind mark v (λ r. step (r / v .commands) (r % v .commands)) 9 (displays-title ∷ displays-on c) 0 (v .states * v .commands) (λ r h. step-length r (omega arith)))
-        (title-length kind mark v 4 (names-of displays-title) (displays-on c))
-        (block-length kind mark v (λ r. shown (r / v .consoles) (r % v .consoles)) 15 (flows-title ∷ []) 0 (v .states * v .consoles) (λ r h. shown-length r (omega arith)))
-        refl
+      (title-length kind mark v 2 (names-of owners-title) (owners-on c))
+      (block-length kind mark v owner 6 (steps-title ∷ steps-on c) 0 (v .commands) (λ r h. owner-length r (omega arith)))
+      (title-length kind mark v 3 (names-of steps-title) (steps-on c))
+      (block-length kind mark v (λ r. step (r / v .commands) (r % v .commands)) 9 (displays-title ∷ displays-on c) 0 (v .states * v .commands) (λ r h. step-length r (omega arith)))
+      (title-length kind mark v 4 (names-of displays-title) (displays-on c))
+      (block-length kind mark v (λ r. shown (r / v .consoles) (r % v .consoles)) 15 (flows-title ∷ []) 0 (v .states * v .consoles) (λ r h. shown-length r (omega arith)))
+      refl
     where
       added : {a b c d e f g : ℕ} → a ≡ 16 + b → b ≤ v .commands * 6 + c → c ≡ 19 + d → d ≤ v .states * v .commands * 9 + e → e ≡ 22 + f → f ≤ v .states * v .consoles * 15 + g → g ≡ 8 → a ≤ 39809
       added h1 h2 h3 h4 h5 h6 h7 =
@@ -111,11 +111,11 @@ module _ {D : Type 0} {kind : List ℕ} {mark : D → List ℕ} {reads : List �
       let ps : List ℕ = flow-pairs k F in
       let rows : List ℕ = rows-text kind mark v (plan (v .states) (v .commands) k) in
       added (length ps)
-        (length-append (row-text kind mark v counts-title) (counts-text kind mark v ++ (rows ++ flows-text k ps)))
-        (length-append (counts-text kind mark v) (rows ++ flows-text k ps))
-        (length-append rows (flows-text k ps))
-        (flows-length k 0 (lawful .consoles-count) ps (pairs-listed k F))
-        (listed-few k 0 ps (omega arith) (pairs-listed k F))
+      (length-append (row-text kind mark v counts-title) (counts-text kind mark v ++ (rows ++ flows-text k ps)))
+      (length-append (counts-text kind mark v) (rows ++ flows-text k ps))
+      (length-append rows (flows-text k ps))
+      (flows-length k 0 (lawful .consoles-count) ps (pairs-listed k F))
+      (listed-few k 0 ps (omega arith) (pairs-listed k F))
     where
       added : {a b d f : ℕ} (n : ℕ) → a ≡ 39 + b → b ≡ length (counts-text kind mark v) + d → d ≡ length (rows-text kind mark v (plan (v .states) (v .commands) (v .consoles))) + f → f ≤ n * 6 → n + 0 ≤ v .consoles * v .consoles → a ≤ most-bytes
       added n h1 h2 h3 h4 h5 = omega (arith, counts-length, plan-length, mul-le (v .consoles) (v .consoles) 12 12 (lawful .consoles-count .1) (lawful .consoles-count .1))

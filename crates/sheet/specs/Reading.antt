@@ -103,9 +103,9 @@ flows-at k sheet (suc room) low line i =
     cond (leb (length sheet) i)
     (Ok [])
     (on (on-line line 5 (flow-at k sheet i)) (λ y.
-      cond (may-come k low (y .0))
-      (on (flows-at k sheet room (y .0 + 1) (line + 1) (y .1)) (λ ps. Ok (y .0 ∷ ps)))
-      (on-line line 5 (Err (mark-fault NotDue i)))))
+    cond (may-come k low (y .0))
+    (on (flows-at k sheet room (y .0 + 1) (line + 1) (y .1)) (λ ps. Ok (y .0 ∷ ps)))
+    (on-line line 5 (Err (mark-fault NotDue i)))))
 
 -- what a sheet says
 pub record Sheet (D : Type 0) : Type 0 where

@@ -40,7 +40,7 @@ module _ {D : Type 0} (a b : ControlValue D) (L : Lockout) (left : Lawful a) (ri
   Apart p =
       (s t : ℕ) → s < a .states → t < b .states → every (λ c. ltb c (a .commands + b .commands)) p ≡ true
       → leads (next-of (product a b)) L (s * b .states + t) p
-        ≡ leads (next-of a) L s (left-commands (a .commands) p) * b .states + leads (next-of b) (λ c. L (a .commands + c)) t (right-commands (a .commands) p)
+      ≡ leads (next-of a) L s (left-commands (a .commands) p) * b .states + leads (next-of b) (λ c. L (a .commands + c)) t (right-commands (a .commands) p)
 
   run-apart : (p : List ℕ) → Apart p
   run-apart [] s t hs ht all = refl
@@ -53,9 +53,9 @@ module _ {D : Type 0} (a b : ControlValue D) (L : Lockout) (left : Lawful a) (ri
       here = ltb-true c _ (parts .0)
 
       by-side : Apart p → (first : Bool) → ltb c (a .commands) ≡ first
-        → leads (next-of (product a b)) L (moved (next-of (product a b)) L (s * b .states + t) c) p
+          → leads (next-of (product a b)) L (moved (next-of (product a b)) L (s * b .states + t) c) p
           ≡ leads (next-of a) L s (cond first (c ∷ left-commands (a .commands) p) (left-commands (a .commands) p)) * b .states
-            + leads (next-of b) (λ k. L (a .commands + k)) t (cond first (right-commands (a .commands) p) ((c - a .commands) ∷ right-commands (a .commands) p))
+          + leads (next-of b) (λ k. L (a .commands + k)) t (cond first (right-commands (a .commands) p) ((c - a .commands) ∷ right-commands (a .commands) p))
       by-side later true e =
           let mine : c < a .commands = ltb-true c (a .commands) e in
           let took : next-of (product a b) (s * b .states + t) c ≡ next-of a s c * b .states + t = stepped s t c hs ht here ∙ cond-true (ltb c (a .commands)) _ _ e ∙ ap (λ x. x * b .states + t) (sym (step-left s t c hs ht here mine)) in

@@ -34,5 +34,5 @@ right-commands m (c ∷ p) = cond (ltb c m) (right-commands m p) ((c - m) ∷ ri
 -- the other side is given.
 abbrev pub SidesRunApart : Type 0 → Type 0
 SidesRunApart D = (a b : ControlValue D) (L : Lockout) → Lawful a → Lawful b → (s t : ℕ) → s < a .states → t < b .states → (p : List ℕ) → every (λ c. ltb c (a .commands + b .commands)) p ≡ true
-  → leads (next-of (product a b)) L (s * b .states + t) p
+    → leads (next-of (product a b)) L (s * b .states + t) p
     ≡ leads (next-of a) L s (left-commands (a .commands) p) * b .states + leads (next-of b) (λ c. L (a .commands + c)) t (right-commands (a .commands) p)

@@ -12,7 +12,7 @@ pub returns : need.returns
 returns c =
     made-weaker (c .format .result) _ (λ t. string-bytes t ≡ refusal-sentence (c .args .refusal))
     (λ t written.
-      written
-      ∙ ap (λ told. codes "Refused with number " ++ (decimal (told .number) ++ (codes ": " ++ (c .reason-reason .result .now ++ codes ".\n")))) (c .told-number .ensures)
-      ∙ ap (λ why. codes "Refused with number " ++ (decimal (told-of (c .args .refusal) .number) ++ (codes ": " ++ (why ++ codes ".\n")))) (c .reason-reason .ensures))
+    written
+    ∙ ap (λ told. codes "Refused with number " ++ (decimal (told .number) ++ (codes ": " ++ (c .reason-reason .result .now ++ codes ".\n")))) (c .told-number .ensures)
+    ∙ ap (λ why. codes "Refused with number " ++ (decimal (told-of (c .args .refusal) .number) ++ (codes ": " ++ (why ++ codes ".\n")))) (c .reason-reason .ensures))
     (c .format .ensures .made)

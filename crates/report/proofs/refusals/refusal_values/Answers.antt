@@ -11,6 +11,6 @@ pub returns : need.returns
 returns c =
     made-weaker (c .format .result) _ (λ t. string-bytes t ≡ refusal-values (c .args .refusal))
     (λ t written.
-      written
-      ∙ ap (λ told. codes "refusal place line block\n" ++ (decimal (told .number) ++ (codes " " ++ (decimal (told .place) ++ (codes " " ++ (decimal (told .line) ++ (codes " " ++ (decimal (told .block) ++ codes "\n")))))))) (c .told-told .ensures))
+    written
+    ∙ ap (λ told. codes "refusal place line block\n" ++ (decimal (told .number) ++ (codes " " ++ (decimal (told .place) ++ (codes " " ++ (decimal (told .line) ++ (codes " " ++ (decimal (told .block) ++ codes "\n")))))))) (c .told-told .ensures))
     (c .format .ensures .made)

@@ -12,6 +12,6 @@ returns-then-fit g c =
     let left = g .L·Control .lawful (c .args .self .now .left) in
     let right = g .R·Control .lawful (c .args .self .now .right) in
     let joined =
-        ap₂ _+_ (ap₂ _*_ (c .start-left .ensures .value) (c .states .ensures .value)) (c .start .ensures .value)
-        ∙ sym (ap (λ v. v .start) (beside left right (sym (c .if-fit .ensures tt)))) in
+    ap₂ _+_ (ap₂ _*_ (c .start-row .ensures .value) (c .states .ensures .value)) (c .start .ensures .value)
+    ∙ sym (ap (λ v. v .start) (beside left right (sym (c .if-fit .ensures tt)))) in
     record { value = joined; bound = subst (λ n. n < side-by-side a b .states) (sym joined) (side-by-side-lawful left right .starts) }
