@@ -8,5 +8,4 @@ pub mod ExactControls
 pub mod SheetLengths
 pub mod Cursor
 pub mod Blocks
-pub mod Bounds
 pub mod Outcome

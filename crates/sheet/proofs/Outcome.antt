@@ -21,7 +21,7 @@ use Rattle.control.specs.Replays.{same-counts, counts-answer}
 use Rattle.sheet.specs.Text.{sheet-text}
 use Rattle.sheet.specs.Calls.{overwritten, write-answer, output-after}
 use Rattle.sheet.specs.Written.{last-place, Wrote}
-use Rattle.sheet.proofs.Bounds.{name-short, sheet-short}
+use Rattle.sheet.proofs.SheetLengths.{all-fit}
 use Rattle.sheet.proofs.Cursor.{wrote-as}
 
 passed-check : (b : Bool) (x : Unit {0}) → _≡_ {A = Result (Unit {0}) Refusal} (Ok x) (cond b (Ok tt) (Err CountsDiffer)) → b ≡ true
@@ -49,7 +49,7 @@ module _ {D : Type 0} (kind : List ℕ) (mark : D → List ℕ) (named : is-name
   lent-text = ap (λ f. sheet-text kind mark v (may-affect f)) held
 
   length-counted : {was is : List ℕ} {n : ℕ} → Wrote was 0 (sheet-text kind mark v (may-affect lent)) is n → n ≡ length text
-  length-counted w = counted (sheet-short kind mark v lawful short (may-affect flows) (name-short kind named)) (wrote-as lent-text w)
+  length-counted w = counted (omega (arith, all-fit kind mark named short v (may-affect flows) lawful)) (wrote-as lent-text w)
 
   module _ {none left : List ℕ} {needed : ℕ} (first : Wrote none 0 (sheet-text kind mark v (may-affect lent)) left needed) (out : List ℕ) where
     pub refused : length out < needed

@@ -1,22 +1,22 @@
 -- How long a sheet of a control can be.
 use Prim.Native.Nat.{ℕ, zero, suc, _+_, _*_, _/_, _%_, _<_, _≤_}
 use mathlib.Core.Path.{_≡_, refl}
+use mathlib.Core.Bool.{true}
 use mathlib.Core.List.{List, [], _∷_, _++_}
 use lib.ListN.{length}
 use native.Mathlib.Omega.{arith}
 use Rattle.std.specs.Written.{decimal}
-use Rattle.std.specs.declared.result.Result.{Result}
 use Rattle.std.proofs.shelf.Bits.{div-below, mod-below, mul-le}
 use Rattle.std.proofs.shelf.Decimals.{length-decimal-le}
 use Rattle.std.proofs.shelf.Lists.{length-append}
-use Rattle.mark.specs.declared.cause.Cause.{Cause}
+use Rattle.mark.specs.Runs.{is-name}
 use Rattle.theory.specs.Limits.{Count, most-consoles}
 use Rattle.theory.specs.Control.{ControlValue, Lawful}
 use Rattle.theory.specs.Flows.{Flow}
 use Rattle.sheet.specs.Plan.{Row, title, owner, step, shown, tabulate, counts-title, owners-title, steps-title, displays-title, flows-title, plan}
 use Rattle.sheet.specs.Text.{line-of, row-text, rows-text, counts-text, flows-text, flow-pairs, sheet-text}
 use Rattle.sheet.specs.Reading.{Counted}
-use Rattle.sheet.specs.Exact.{KindLaws, SheetsFit, most-bytes}
+use Rattle.sheet.specs.Exact.{SheetsFit, most-bytes}
 use Rattle.sheet.proofs.ExactDues.{name-marks}
 use Rattle.sheet.proofs.ExactFlows.{ListedFrom, pairs-listed}
 use Rattle.sheet.proofs.ExactSheets.{names-of, counts-of, displays-on, steps-on, owners-on}
@@ -59,7 +59,7 @@ flows-length k low c (p ∷ ps) l =
     let to : p % k < k = mod-below p k (c .0) in
     omega (arith, length-append (line-of (decimal (p / k) ∷ (decimal (p % k) ∷ []))) (flows-text k ps), two-words (decimal (p / k)) (decimal (p % k)), two-digits (p / k) (omega (arith, c .1)), two-digits (p % k) (omega (arith, c .1)), flows-length k (p + 1) c ps (l .3))
 
-module _ {D : Type 0} {kind : List ℕ} {mark : D → List ℕ} {reads : List ℕ → Result D Cause} (laws : KindLaws kind mark reads) (v : ControlValue D) (lawful : Lawful v) where
+module _ {D : Type 0} (kind : List ℕ) (mark : D → List ℕ) (named : is-name kind ≡ true) (short : (x : D) → length (mark x) ≤ 8) (v : ControlValue D) (lawful : Lawful v) where
   owner-length : (c : ℕ) → c < v .commands → length (row-text kind mark v (owner c)) ≤ 6
   owner-length c h =
       omega (arith, two-words (decimal c) (decimal (v .owner c)), two-digits c (omega (arith, lawful .commands-count .1)), two-digits (v .owner c) (omega (arith, lawful .owned c h, lawful .consoles-count .1)))
@@ -78,7 +78,7 @@ module _ {D : Type 0} {kind : List ℕ} {mark : D → List ℕ} {reads : List �
       let u : ℕ = r % v .consoles in
       let row : s < v .states = div-below r (v .consoles) (v .states) (lawful .consoles-count .0) h in
       let column : u < v .consoles = mod-below r (v .consoles) (lawful .consoles-count .0) in
-      omega (arith, three-words (decimal s) (decimal u) (mark (v .shows s u)), two-digits s (omega (arith, lawful .states-count .1)), two-digits u (omega (arith, lawful .consoles-count .1)), laws .short (v .shows s u))
+      omega (arith, three-words (decimal s) (decimal u) (mark (v .shows s u)), two-digits s (omega (arith, lawful .states-count .1)), two-digits u (omega (arith, lawful .consoles-count .1)), short (v .shows s u))
 
   counts-length : length (counts-text kind mark v) ≤ 22
   counts-length =
@@ -86,8 +86,8 @@ module _ {D : Type 0} {kind : List ℕ} {mark : D → List ℕ} {reads : List �
       let commands = two-digits (v .commands) (omega (arith, lawful .commands-count .1)) in
       let consoles = two-digits (v .consoles) (omega (arith, lawful .consoles-count .1)) in
       let start = two-digits (v .start) (omega (arith, lawful .starts, lawful .states-count .1)) in
-      let named = name-marks kind (laws .named) in
-      omega (arith, five-words (decimal (v .states)) (decimal (v .commands)) (decimal (v .consoles)) (decimal (v .start)) kind, named .2)
+      let few = name-marks kind named in
+      omega (arith, five-words (decimal (v .states)) (decimal (v .commands)) (decimal (v .consoles)) (decimal (v .start)) kind, few .2)
 
   plan-length : length (rows-text kind mark v (plan (v .states) (v .commands) (v .consoles))) ≤ 39809
   plan-length =
@@ -120,5 +120,5 @@ module _ {D : Type 0} {kind : List ℕ} {mark : D → List ℕ} {reads : List �
       added : {a b d f : ℕ} (n : ℕ) → a ≡ 39 + b → b ≡ length (counts-text kind mark v) + d → d ≡ length (rows-text kind mark v (plan (v .states) (v .commands) (v .consoles))) + f → f ≤ n * 6 → n + 0 ≤ v .consoles * v .consoles → a ≤ most-bytes
       added n h1 h2 h3 h4 h5 = omega (arith, counts-length, plan-length, mul-le (v .consoles) (v .consoles) 12 12 (lawful .consoles-count .1) (lawful .consoles-count .1))
 
-pub all-fit : {D : Type 0} {kind : List ℕ} {mark : D → List ℕ} {reads : List ℕ → Result D Cause} → KindLaws kind mark reads → SheetsFit kind mark
-all-fit laws v F lawful = text-length laws v lawful F
+pub all-fit : {D : Type 0} (kind : List ℕ) (mark : D → List ℕ) → is-name kind ≡ true → ((x : D) → length (mark x) ≤ 8) → SheetsFit kind mark
+all-fit kind mark named short v F lawful = text-length kind mark named short v lawful F
