@@ -5,4 +5,11 @@ pub mod Text
 pub mod Reading
 pub mod Exact
 pub mod Calls
+pub mod Kinds
+pub mod Numbered
+pub mod Due
+pub mod Entries
+pub mod Passes
+pub mod Boards
+pub mod Stores
 pub mod Written

@@ -1,6 +1,7 @@
 // Faults in a sheet: a mark's inside a row's inside a sheet's, each layer keeping the one below whole.
 ghost use mathlib.Core.Path.{_≡_};
 ghost use Rattle.sheet.specs.Calls.{refusal-of};
+ghost use Rattle.sheet.specs.Numbered.{numbered-by};
 use mark::cause::Cause;
 use mark::cause::CauseDebug;
 use mark::cause::CauseEq;
@@ -28,7 +29,26 @@ pub struct SheetFault {
     pub block: usize,
 }
 
+// What was read stays; a fault takes the number that the next layer adds with it.
+pub fn numbered<T, F>(result: Result<T, F>, number: usize) -> Result<T, (F, usize)>
+    ensures { λ r. ⌜ r ≡ numbered-by number result ⌝ }
+{
+    match result {
+        Ok(read) => Ok(read),
+        Err(fault) => Err((fault, number)),
+    }
+}
+
 // A fault with the number that the next layer adds.
+pub impl From<(Cause, usize)> for MarkFault as MarkFaultFromCause {
+    ghost converts = { λ f r. r ≡ record { cause = f .0; place = f .1 } };
+
+    fn from(fault: (Cause, usize)) -> MarkFault {
+        let (cause, place) = fault;
+        MarkFault { cause, place }
+    }
+}
+
 pub impl From<(MarkFault, usize)> for RowFault as RowFaultFromMark {
     ghost converts = { λ f r. r ≡ record { mark = f .0; line = f .1 } };
 
@@ -52,11 +72,6 @@ pub impl From<SheetFault> for Refusal as RefusalFromSheet {
 
     fn from(fault: SheetFault) -> Refusal {
         let mark = fault.row.mark;
-        Refusal::Fault {
-            cause: mark.cause,
-            place: mark.place,
-            line: fault.row.line,
-            block: fault.block,
-        }
+        Refusal::Fault { cause: mark.cause, place: mark.place, line: fault.row.line, block: fault.block }
     }
 }
