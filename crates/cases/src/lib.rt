@@ -7,3 +7,5 @@ mod controls;
 mod latch;
 #[cfg(test)]
 mod likeness;
+#[cfg(test)]
+mod sheets;

@@ -2,6 +2,5 @@ pub mod Lines
 pub mod Transcripts
 pub mod Troubles
 pub mod Sentences
-pub mod Examples
 pub mod Comparisons
 pub mod Readbacks

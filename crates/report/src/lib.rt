@@ -1,6 +1,5 @@
 // What the programs print, made as text whose contracts say what it is.
 pub mod comparison;
-pub mod example;
 pub mod lines;
 pub mod readback;
 pub mod refusals;

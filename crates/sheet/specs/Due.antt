@@ -69,7 +69,7 @@ abbrev pub rows-left : Counts → Option Due → List Row
 rows-left c None = []
 rows-left c (Some d) = rows-due c d
 
--- the row after it: after its last row a block hands over to the next
+-- the row after it; behind the last row of a block stand the names of the next
 abbrev pub next-due : Counts → Due → Option Due
 next-due c (due.Title block.Owners) = Some (due.Owner 0)
 next-due c (due.Title block.Steps) = Some (due.Step 0)

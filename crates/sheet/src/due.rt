@@ -38,7 +38,7 @@ impl Due {
         }
     }
 
-    // The row after it: after its last row a block hands over to the next.
+    // The row after it; behind the last row of a block stand the names of the next.
     pub(crate) fn after(self, counts: &Counts) -> Option<Due>
         requires { ⌜ Within (now counts) ⌝ ∗ ⌜ Stands (now counts) self ⌝ }
         ensures { λ r. ⌜ r ≡ next-due (now (counts .entry)) self ⌝ }

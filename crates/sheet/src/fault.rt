@@ -72,6 +72,11 @@ pub impl From<SheetFault> for Refusal as RefusalFromSheet {
 
     fn from(fault: SheetFault) -> Refusal {
         let mark = fault.row.mark;
-        Refusal::Fault { cause: mark.cause, place: mark.place, line: fault.row.line, block: fault.block }
+        Refusal::Fault {
+            cause: mark.cause,
+            place: mark.place,
+            line: fault.row.line,
+            block: fault.block,
+        }
     }
 }

@@ -33,20 +33,34 @@ fn flow(sheet: &[u8], at: usize, consoles: usize) -> Result<(usize, usize), Mark
 }
 
 // A flow that may come: no self flow, and no pair below `low`, the one behind the last.
-fn flow_due(sheet: &[u8], at: usize, consoles: usize, low: usize) -> Result<(usize, usize), MarkFault>
+fn flow_due(
+    sheet: &[u8],
+    at: usize,
+    consoles: usize,
+    low: usize,
+) -> Result<(usize, usize), MarkFault>
     requires { ⌜ Count most-consoles consoles ⌝ }
     ensures read { λ r. ⌜ r ≡ flow-due consoles low (now (sheet .entry)) at ⌝ }
     ensures bound { λ r. ⌜ made r (λ y. (low ≤ y .0) × (y .0 < consoles * consoles)) ⌝ }
 {
     let (pair, behind) = flow(sheet, at, consoles)?;
     if pair < low || pair / consoles == pair % consoles {
-        return Err(MarkFault { cause: Cause::NotDue, place: at });
+        return Err(MarkFault {
+            cause: Cause::NotDue,
+            place: at,
+        });
     }
     Ok((pair, behind))
 }
 
 // The same on its line.
-fn flow_on(sheet: &[u8], at: usize, line: usize, consoles: usize, low: usize) -> Result<(usize, usize), RowFault>
+fn flow_on(
+    sheet: &[u8],
+    at: usize,
+    line: usize,
+    consoles: usize,
+    low: usize,
+) -> Result<(usize, usize), RowFault>
     requires { ⌜ Count most-consoles consoles ⌝ }
     ensures read { λ r. ⌜ r ≡ lined line (flow-due consoles low (now (sheet .entry)) at) ⌝ }
     ensures bound { λ r. ⌜ made r (λ y. (low ≤ y .0) × (y .0 < consoles * consoles)) ⌝ }
@@ -55,7 +69,13 @@ fn flow_on(sheet: &[u8], at: usize, line: usize, consoles: usize, low: usize) ->
 }
 
 // The same in the last block.
-fn next_flow(sheet: &[u8], at: usize, line: usize, consoles: usize, low: usize) -> Result<(usize, usize), SheetFault>
+fn next_flow(
+    sheet: &[u8],
+    at: usize,
+    line: usize,
+    consoles: usize,
+    low: usize,
+) -> Result<(usize, usize), SheetFault>
     requires { ⌜ Count most-consoles consoles ⌝ }
     ensures read { λ r. ⌜ r ≡ on-line line 5 (flow-due consoles low (now (sheet .entry)) at) ⌝ }
     ensures bound { λ r. ⌜ made r (λ y. (low ≤ y .0) × (y .0 < consoles * consoles)) ⌝ }
@@ -64,7 +84,12 @@ fn next_flow(sheet: &[u8], at: usize, line: usize, consoles: usize, low: usize) 
 }
 
 // The flows to the end of the sheet, on a board that is bare of any other.
-pub(crate) fn all_flows(sheet: &[u8], at: usize, line: usize, counts: &Counts) -> Result<Board, Refusal>
+pub(crate) fn all_flows(
+    sheet: &[u8],
+    at: usize,
+    line: usize,
+    counts: &Counts,
+) -> Result<Board, Refusal>
     requires { ⌜ Within (now counts) ⌝ ∗ ⌜ line ≤ 3631 ⌝ }
     ensures { λ r. ⌜ BoardAs (now (counts .entry)) r (flows-at (now (counts .entry) .consoles) (now (sheet .entry)) (now (counts .entry) .consoles * now (counts .entry) .consoles) 0 line at) ⌝ }
 {

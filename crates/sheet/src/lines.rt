@@ -9,7 +9,7 @@ use display::kind::DisplayKind;
 use policy::flows::Flows;
 
 // Counts, start and the name of the display kind.
-pub fn counts<C: Control>(control: &C, out: &mut [u8], mut at: usize) -> usize
+pub(crate) fn counts<C: Control>(control: &C, out: &mut [u8], mut at: usize) -> usize
     ensures { λ r. ⌜ Wrote (now (out .entry)) at (counts-text (Display·DisplayKind .kind) (Display·DisplayKind .marked) (C·Control .value (now (control .entry)))) (now (out .exit)) r ⌝ }
 {
     at = number(out, at, control.states(), b' ');
@@ -20,7 +20,7 @@ pub fn counts<C: Control>(control: &C, out: &mut [u8], mut at: usize) -> usize
 }
 
 // A line for each command: the console that it belongs to.
-pub fn owners<C: Control>(control: &C, out: &mut [u8], mut at: usize) -> usize
+pub(crate) fn owners<C: Control>(control: &C, out: &mut [u8], mut at: usize) -> usize
     ensures { λ r. ⌜ Wrote (now (out .entry)) at (rows-text (Display·DisplayKind .kind) (Display·DisplayKind .marked) (C·Control .value (now (control .entry))) (owner-rows (C·Control .value (now (control .entry))))) (now (out .exit)) r ⌝ }
 {
     for command in 0..control.commands() {
@@ -31,7 +31,7 @@ pub fn owners<C: Control>(control: &C, out: &mut [u8], mut at: usize) -> usize
 }
 
 // A line for each state and command: the state that comes next.
-pub fn steps<C: Control>(control: &C, out: &mut [u8], mut at: usize) -> usize
+pub(crate) fn steps<C: Control>(control: &C, out: &mut [u8], mut at: usize) -> usize
     ensures { λ r. ⌜ Wrote (now (out .entry)) at (rows-text (Display·DisplayKind .kind) (Display·DisplayKind .marked) (C·Control .value (now (control .entry))) (step-rows (C·Control .value (now (control .entry))))) (now (out .exit)) r ⌝ }
 {
     let commands = control.commands();
@@ -46,7 +46,7 @@ pub fn steps<C: Control>(control: &C, out: &mut [u8], mut at: usize) -> usize
 }
 
 // A line for each state and console: what the console shows.
-pub fn displays<C: Control>(control: &C, out: &mut [u8], mut at: usize) -> usize
+pub(crate) fn displays<C: Control>(control: &C, out: &mut [u8], mut at: usize) -> usize
     ensures { λ r. ⌜ Wrote (now (out .entry)) at (rows-text (Display·DisplayKind .kind) (Display·DisplayKind .marked) (C·Control .value (now (control .entry))) (display-rows (C·Control .value (now (control .entry))))) (now (out .exit)) r ⌝ }
 {
     let consoles = control.consoles();
@@ -62,7 +62,7 @@ pub fn displays<C: Control>(control: &C, out: &mut [u8], mut at: usize) -> usize
 }
 
 // A line for each flow from a console to another.
-pub fn flows<C: Control>(control: &C, flows: &Flows, out: &mut [u8], mut at: usize) -> usize
+pub(crate) fn flows<C: Control>(control: &C, flows: &Flows, out: &mut [u8], mut at: usize) -> usize
     ensures { λ r. ⌜ Wrote (now (out .entry)) at (flows-text (C·Control .value (now (control .entry)) .consoles) (flow-pairs (C·Control .value (now (control .entry)) .consoles) (may-affect (now (flows .entry))))) (now (out .exit)) r ⌝ }
 {
     let consoles = control.consoles();

@@ -35,11 +35,17 @@ fn run(sheet: &[u8], at: usize) -> Result<&[u8], MarkFault>
     ensures cut { λ r. ⌜ Cases r (λ run. mark-at Ok (now (sheet .entry)) at ≡ Ok (now run, at + length (now run))) (λ f. mark-at Ok (now (sheet .entry)) at ≡ Err f) ⌝ }
 {
     if at >= sheet.len() {
-        return Err(MarkFault { cause: Cause::EndsEarly, place: at });
+        return Err(MarkFault {
+            cause: Cause::EndsEarly,
+            place: at,
+        });
     }
     let end = run_end(sheet, at);
     if end == at {
-        return Err(MarkFault { cause: Cause::NoMark, place: at });
+        return Err(MarkFault {
+            cause: Cause::NoMark,
+            place: at,
+        });
     }
     Ok(&sheet[at..end])
 }
@@ -49,10 +55,16 @@ fn byte(sheet: &[u8], at: usize, due: u8) -> Result<usize, MarkFault>
     ensures { λ r. ⌜ r ≡ byte-at due (now (sheet .entry)) at ⌝ }
 {
     if at >= sheet.len() {
-        return Err(MarkFault { cause: Cause::EndsEarly, place: at });
+        return Err(MarkFault {
+            cause: Cause::EndsEarly,
+            place: at,
+        });
     }
     if sheet[at] != due {
-        return Err(MarkFault { cause: Cause::NotDue, place: at });
+        return Err(MarkFault {
+            cause: Cause::NotDue,
+            place: at,
+        });
     }
     Ok(at + 1)
 }
@@ -64,7 +76,10 @@ fn name_in(run: &[u8], at: usize, due: &[u8]) -> Result<(), MarkFault>
     match numbered(Token::sort(run, at), at)? {
         Token::Name { run, .. } if run == due => Ok(()),
         Token::Name { at, .. } | Token::Number { at, .. } | Token::Negative { at, .. } => {
-            Err(MarkFault { cause: Cause::NotDue, place: at })
+            Err(MarkFault {
+                cause: Cause::NotDue,
+                place: at,
+            })
         }
     }
 }
@@ -75,12 +90,24 @@ fn number_in(run: &[u8], at: usize, least: usize, most: usize) -> Result<usize, 
     ensures bound { λ r. ⌜ made r (λ n. (least ≤ n) × (n ≤ most)) ⌝ }
 {
     match numbered(Token::sort(run, at), at)? {
-        Token::Name { at, .. } => Err(MarkFault { cause: Cause::NotDue, place: at }),
-        Token::Negative { at, .. } => Err(MarkFault { cause: Cause::OutOfRange, place: at }),
+        Token::Name { at, .. } => Err(MarkFault {
+            cause: Cause::NotDue,
+            place: at,
+        }),
+        Token::Negative { at, .. } => Err(MarkFault {
+            cause: Cause::OutOfRange,
+            place: at,
+        }),
         Token::Number { run, at } => match number(run) {
-            None => Err(MarkFault { cause: Cause::NoMark, place: at }),
+            None => Err(MarkFault {
+                cause: Cause::NoMark,
+                place: at,
+            }),
             Some(n) if least <= n as usize && n as usize <= most => Ok(n as usize),
-            Some(_) => Err(MarkFault { cause: Cause::OutOfRange, place: at }),
+            Some(_) => Err(MarkFault {
+                cause: Cause::OutOfRange,
+                place: at,
+            }),
         },
     }
 }
@@ -91,16 +118,30 @@ fn exact_in(run: &[u8], at: usize, due: usize) -> Result<usize, MarkFault>
 {
     match numbered(Token::sort(run, at), at)? {
         Token::Number { run, at } => match number(run) {
-            None => Err(MarkFault { cause: Cause::NoMark, place: at }),
+            None => Err(MarkFault {
+                cause: Cause::NoMark,
+                place: at,
+            }),
             Some(n) if n as usize == due => Ok(due),
-            Some(_) => Err(MarkFault { cause: Cause::NotDue, place: at }),
+            Some(_) => Err(MarkFault {
+                cause: Cause::NotDue,
+                place: at,
+            }),
         },
-        Token::Name { at, .. } | Token::Negative { at, .. } => Err(MarkFault { cause: Cause::NotDue, place: at }),
+        Token::Name { at, .. } | Token::Negative { at, .. } => Err(MarkFault {
+            cause: Cause::NotDue,
+            place: at,
+        }),
     }
 }
 
 // A mark that was read from a run, and the byte behind the run.
-fn item<T: Copy>(read: Result<T, MarkFault>, sheet: &[u8], end: usize, then: u8) -> Result<(T, usize), MarkFault>
+fn item<T: Copy>(
+    read: Result<T, MarkFault>,
+    sheet: &[u8],
+    end: usize,
+    then: u8,
+) -> Result<(T, usize), MarkFault>
     ensures { λ r. ⌜ r ≡ item-from read then (now (sheet .entry)) end ⌝ }
 {
     let mark = read?;

@@ -13,7 +13,7 @@ fn push(out: &mut [u8], at: usize, byte: u8) -> usize
     at.saturating_add(1)
 }
 
-pub fn push_all(out: &mut [u8], mut at: usize, bytes: &[u8]) -> usize
+pub(crate) fn push_all(out: &mut [u8], mut at: usize, bytes: &[u8]) -> usize
     ensures { λ r. ⌜ Wrote (now (out .entry)) at (now (bytes .entry)) (now (out .exit)) r ⌝ }
 {
     for byte in bytes {
@@ -34,7 +34,7 @@ fn push_decimal(out: &mut [u8], at: usize, n: usize) -> usize
 }
 
 // A word of a line, and the byte that parts it from what comes next.
-pub fn word(out: &mut [u8], at: usize, bytes: &[u8], next: u8) -> usize
+pub(crate) fn word(out: &mut [u8], at: usize, bytes: &[u8], next: u8) -> usize
     ensures { λ r. ⌜ Wrote (now (out .entry)) at (now (bytes .entry) ++ (next ∷ [])) (now (out .exit)) r ⌝ }
 {
     let behind = push_all(out, at, bytes);
@@ -42,7 +42,7 @@ pub fn word(out: &mut [u8], at: usize, bytes: &[u8], next: u8) -> usize
 }
 
 // The same for a number in decimal.
-pub fn number(out: &mut [u8], at: usize, n: usize, next: u8) -> usize
+pub(crate) fn number(out: &mut [u8], at: usize, n: usize, next: u8) -> usize
     ensures { λ r. ⌜ Wrote (now (out .entry)) at (decimal n ++ (next ∷ [])) (now (out .exit)) r ⌝ }
 {
     let behind = push_decimal(out, at, n);

@@ -50,11 +50,19 @@ impl Progress {
     pub(crate) fn start(at: usize) -> Progress
         ensures { λ r. ⌜ r ≡ started at ⌝ }
     {
-        Progress { due: Some(Due::Title(Block::Owners)), line: 3, at }
+        Progress {
+            due: Some(Due::Title(Block::Owners)),
+            line: 3,
+            at,
+        }
     }
 
     // Reads the row that is due, if there is one, and goes on to the row after it.
-    pub(crate) fn next<D: DisplayKind>(&mut self, sheet: &[u8], heading: &Heading) -> Result<Option<(Due, Entry<D>)>, SheetFault>
+    pub(crate) fn next<D: DisplayKind>(
+        &mut self,
+        sheet: &[u8],
+        heading: &Heading,
+    ) -> Result<Option<(Due, Entry<D>)>, SheetFault>
         requires { ⌜ Within (now heading .counts) ⌝ ∗ ⌜ Ready (now heading .counts) (now self) ⌝ }
         ensures { λ r. ⌜ Cases r (λ o. BySome o (Ended (D·DisplayKind .reads) (now (heading .entry)) (now (sheet .entry)) (now (self .entry)) (now (self .exit))) (λ y. Stepped (D·DisplayKind .reads) (now (heading .entry)) (now (sheet .entry)) (now (self .entry)) (now (self .exit)) (y .0) (y .1))) (λ f. Faulted (D·DisplayKind .reads) (now (heading .entry)) (now (sheet .entry)) (now (self .entry)) f) ⌝ }
     {

@@ -49,7 +49,11 @@ fn first_block<D: DisplayKind>(sheet: &[u8]) -> Result<(Heading, usize), SheetFa
 }
 
 // Reads the rows before the flows and keeps nothing of them; the line and the place behind them.
-fn pass_rows<D: DisplayKind>(sheet: &[u8], at: usize, heading: &Heading) -> Result<(usize, usize), SheetFault>
+fn pass_rows<D: DisplayKind>(
+    sheet: &[u8],
+    at: usize,
+    heading: &Heading,
+) -> Result<(usize, usize), SheetFault>
     requires { ⌜ Within (now heading .counts) ⌝ }
     ensures { λ r. ⌜ r ≡ on (rows-at (D·DisplayKind .reads) (counted (now (heading .entry))) (now (sheet .entry)) (plan-of (counted (now (heading .entry)))) 3 at) (λ z. Ok (3 + length (plan-of (counted (now (heading .entry)))), z .1)) ⌝ }
 {
@@ -125,5 +129,9 @@ pub fn read<D: DisplayKind>(
     let (line, end) = pass_rows::<D>(sheet, at, &heading)?;
     let board = all_flows(sheet, end, line, &heading.counts)?;
     fill::<D>(sheet, at, &heading, steps, owners, displays)?;
-    Ok(Found { counts: heading.counts, start: heading.start, board })
+    Ok(Found {
+        counts: heading.counts,
+        start: heading.start,
+        board,
+    })
 }

@@ -48,8 +48,11 @@ fn names(sheet: &[u8], at: usize, due: &[&[u8]]) -> Result<usize, MarkFault>
 }
 
 const OWNERS: [&[u8]; 2] = [b"command", b"console"];
+
 const STEPS: [&[u8]; 3] = [b"state", b"command", b"next"];
+
 const DISPLAYS: [&[u8]; 3] = [b"state", b"console", b"display"];
+
 const FLOWS: [&[u8]; 2] = [b"from", b"to"];
 
 // The names that head a block.
@@ -77,7 +80,12 @@ fn exacts(sheet: &[u8], at: usize, due: &[usize]) -> Result<usize, MarkFault>
 }
 
 // A row that begins with given numbers and ends with a number up to `most`.
-fn number_row(sheet: &[u8], at: usize, due: &[usize], most: usize) -> Result<(usize, usize), MarkFault>
+fn number_row(
+    sheet: &[u8],
+    at: usize,
+    due: &[usize],
+    most: usize,
+) -> Result<(usize, usize), MarkFault>
     ensures read { λ r. ⌜ r ≡ row-at (now (due .entry)) (number-reads 0 most) (now (sheet .entry)) at ⌝ }
     ensures bound { λ r. ⌜ made r (λ y. y .0 ≤ most) ⌝ }
 {
@@ -86,7 +94,11 @@ fn number_row(sheet: &[u8], at: usize, due: &[usize], most: usize) -> Result<(us
 }
 
 // A row that begins with given numbers and ends with a display.
-fn display_row<D: DisplayKind>(sheet: &[u8], at: usize, due: &[usize]) -> Result<(D, usize), MarkFault>
+fn display_row<D: DisplayKind>(
+    sheet: &[u8],
+    at: usize,
+    due: &[usize],
+) -> Result<(D, usize), MarkFault>
     ensures { λ r. ⌜ r ≡ row-at (now (due .entry)) (D·DisplayKind .reads) (now (sheet .entry)) at ⌝ }
 {
     let at = exacts(sheet, at, due)?;
@@ -134,7 +146,10 @@ pub(crate) fn counts_title(sheet: &[u8]) -> Result<usize, MarkFault>
 }
 
 // The row of the first block: three counts, a start among the states, and the kind's name.
-pub(crate) fn counts_row<D: DisplayKind>(sheet: &[u8], at: usize) -> Result<(Heading, usize), MarkFault>
+pub(crate) fn counts_row<D: DisplayKind>(
+    sheet: &[u8],
+    at: usize,
+) -> Result<(Heading, usize), MarkFault>
     ensures read { λ r. ⌜ headed r ≡ counts-at (D·DisplayKind .kind) (now (sheet .entry)) at ⌝ }
     ensures within { λ r. ⌜ made r (λ y. Within (y .0 .counts)) ⌝ }
 {
@@ -143,6 +158,10 @@ pub(crate) fn counts_row<D: DisplayKind>(sheet: &[u8], at: usize) -> Result<(Hea
     let (consoles, at) = marks::ranged(sheet, at, 1, 12, b' ')?;
     let (start, at) = marks::ranged(sheet, at, 0, states - 1, b' ')?;
     let ((), at) = marks::name(sheet, at, D::kind_name(), b'\n')?;
-    let counts = Counts { states, commands, consoles };
+    let counts = Counts {
+        states,
+        commands,
+        consoles,
+    };
     Ok((Heading { counts, start }, at))
 }

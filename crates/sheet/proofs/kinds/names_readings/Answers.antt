@@ -15,10 +15,10 @@ returns-then-told-ne4 c =
     let t = c .told-told .result in
     let as-told = ap (readings-named sheet) (c .told-told .ensures) in
     elim (c .then-told-ne4 .came) [
-      then-told-ne4·by·then-told-ne4 w ↦ sym (other-number sheet t (w .if-told-ne4 .taken)) ∙ as-told
-    | then-told-ne4·by·else-told-ne4·then-told-ne2 w ↦ sym (other-line sheet t (w .if-told-ne2 .taken)) ∙ as-told
-    | then-told-ne4·by·else-told-ne4·else-told-ne2·then-told-ne1 w ↦ sym (other-block sheet t (w .if-told-ne1 .taken)) ∙ as-told
-    | then-told-ne4·by·else-told-ne4·else-told-ne2·else-told-ne1·then-place-sheet w ↦ sym (past-the-end sheet t (w .if-place-sheet .taken)) ∙ as-told
+      | then-told-ne4·by·then-told-ne4 w ↦ sym (other-number sheet t (w .if-told-ne4 .taken)) ∙ as-told
+      | then-told-ne4·by·else-told-ne4·then-told-ne2 w ↦ sym (other-line sheet t (w .if-told-ne2 .taken)) ∙ as-told
+      | then-told-ne4·by·else-told-ne4·else-told-ne2·then-told-ne1 w ↦ sym (other-block sheet t (w .if-told-ne1 .taken)) ∙ as-told
+      | then-told-ne4·by·else-told-ne4·else-told-ne2·else-told-ne1·then-place-sheet w ↦ sym (past-the-end sheet t (w .if-place-sheet .taken)) ∙ as-told
     ]
 
 pub returns : need.returns
