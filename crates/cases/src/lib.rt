@@ -1,4 +1,6 @@
 // Worked examples over the libraries, each proved to be safe and then run.
+#![tactic(auto)]
+
 #[cfg(test)]
 mod boards;
 #[cfg(test)]

@@ -1,4 +1,6 @@
 // Controls: receivers whose consoles give commands and see displays, behind one trait.
+#![tactic(auto)]
+
 pub mod control;
 pub mod reading;
 pub mod replay;

@@ -1,4 +1,6 @@
 // Reads a sheet of codes in every damaged form and prints what the reader answers, to be compared with what is expected.
+#![tactic(auto)]
+
 use display::code::Code;
 use policy::refusal::Refusal;
 use sheet::reader::read;

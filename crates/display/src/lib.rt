@@ -1,4 +1,6 @@
 // What consoles show: kinds of display behind one trait, codes and readings.
+#![tactic(auto)]
+
 pub mod code;
 pub mod kind;
 pub mod reading;

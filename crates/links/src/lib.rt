@@ -1,4 +1,6 @@
 // Functions whose contracts are the theorems on when two command sequences are alike for a console.
+#![tactic(auto)]
+
 ghost use Rattle.links.specs.Laws.{MeaningLaws};
 ghost use Rattle.links.specs.Three.{purge_meaning, intransitive_purge_meaning, transmitted_meaning};
 ghost use Rattle.links.specs.Purge.{purge};

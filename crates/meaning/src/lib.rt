@@ -1,4 +1,6 @@
 // The three meanings of a secure console behind one trait: plain purge, intransitive purge and transmitted actions.
+#![tactic(auto)]
+
 pub mod intransitive_purge;
 mod kept;
 pub mod likeness;

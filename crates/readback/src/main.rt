@@ -1,4 +1,6 @@
 // Reads a sheet from standard input and reads its permitted flows back in words that a site can confirm.
+#![tactic(auto)]
+
 use anyhow::anyhow;
 use display::code::Code;
 use display::kind::DisplayKind;

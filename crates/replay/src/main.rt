@@ -1,4 +1,6 @@
 // Replays command sequences on a receiver: a transcript of one, or a comparison of two.
+#![tactic(auto)]
+
 use anyhow::anyhow;
 use control::control::Control;
 use control::table::{Store, Table};

@@ -1,4 +1,6 @@
 // What the programs print, made as text whose contracts say what it is.
+#![tactic(auto)]
+
 pub mod comparison;
 pub mod lines;
 pub mod readback;

@@ -1,4 +1,6 @@
 // Sheets: the text of a control and its flows, read and written.
+#![tactic(auto)]
+
 mod due;
 pub mod exact;
 pub mod fault;

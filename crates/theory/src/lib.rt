@@ -1,4 +1,6 @@
 // The definitions that every other crate rests on are in specs/; the functions here carry theorems on them.
+#![tactic(auto)]
+
 ghost use Rattle.theory.specs.Theorems.{RunsJoin, LockedCommandsMoveNothing, SidesRunApart};
 
 // A sequence followed by another leads where the other leads from the end of the first.
