@@ -4,8 +4,8 @@ ghost use Rattle.mark.specs.Runs.{number_in, same_bytes};
 ghost use Rattle.mark.specs.declared.cause.Cause.TheVariants.{NotDue};
 ghost use Rattle.display.specs.declared.reading.Reading.TheVariants as reading;
 ghost use Rattle.display.specs.Readings.{ReadingSamenessIsEquality, reading_kind, reading_alike, reading_mark, reading_reads, reading_from, reading_stored, reading_cell, tenths_when};
-ghost use Rattle.display.specs.ReadingsLemmas.{readings_read_back, readings_read_alone, readings_keep};
-ghost use Rattle.std.proofs.Common.{rules};
+ghost use Rattle.display.specs.ReadingsLemmas.{readings_read_back, readings_read_alone, readings_keep, signed_length, signed_marks};
+ghost use Rattle.std.proofs.Common.{arith, lit≤, refl, rules};
 
 use crate::kind::DisplayKind;
 use crate::reading::{Reading, Tenths};
@@ -40,7 +40,7 @@ fn counted(digits: &[u8], below: bool) -> Result<Reading, Cause>
 fn named(run: &[u8]) -> Result<Reading, Cause>
     ensures { result ≡ (if same_bytes run.now (codes "none") then Ok reading.None else Err NotDue) }
 {
-    if run == b"none" {
+    if run == b"none".as_slice() {
         Ok(Reading::None)
     } else {
         Err(Cause::NotDue)
@@ -71,6 +71,12 @@ impl DisplayKind for Reading {
     ghost symmetric = { Prim.search rules };
 
     ghost transitive = { Prim.search rules };
+
+    ghost mark_some = { elim [ reading.None ↦ lit≤ tt | reading.Of x ↦ (signed_length x.count x.range).0 ] };
+
+    ghost mark_short = { elim [ reading.None ↦ lit≤ tt | reading.Of x ↦ omega (arith, (signed_length x.count x.range).1) ] };
+
+    ghost mark_bytes = { elim [ reading.None ↦ refl | reading.Of x ↦ signed_marks x.count x.range ] };
 
     ghost reads_back = { λ x. readings_read_back x };
 

@@ -6,7 +6,7 @@ use Rattle.control.proofs.table.display_at.Goals as goal
 pub returns-in-Some : goal.returns-in-Some
 returns-in-Some g c =
     let found = c.in-Some.ensures.lookup in
-    c.from-cell.ensures
+    c.from_cell.ensures
     ∙ ap g.D.DisplayKind.stored found.1
     ∙ sym (get_or-map g.D.DisplayKind.stored c.args.store.now c.args.at c.in-Some.cell.now g.D.DisplayKind.zero (ltb-true _ _ (sym found.0)))
 

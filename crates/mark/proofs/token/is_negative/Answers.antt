@@ -7,4 +7,4 @@ use Rattle.mark.proofs.token.is_negative.Goals as goal
 
 pub returns : goal.returns
 returns c =
-    c.is-number.ensures ∙ ap is_number (take_rest c.args.run.now 1) ∙ after_minus _ _ _ c.if-run-ne45.false c.if-run-eq48.false
+    c.is_number.ensures ∙ ap is_number (take_rest c.args.run.now 1) ∙ after_minus _ _ _ c.if-run-ne45.false c.if-run-eq48.false

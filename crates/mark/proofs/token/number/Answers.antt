@@ -5,8 +5,8 @@ use Rattle.mark.specs.Runs.{number_after}
 use Rattle.mark.proofs.Scans.{digit_from, number_from, digit_more}
 use Rattle.mark.proofs.token.number.Goals as goal
 
-pub overflow-sub-byte : goal.overflow-sub-byte
-overflow-sub-byte c = (digit_from c.args.run.now c.loop-byte.byte-index c.loop-byte-test.true c.loop-byte.invariant.0).0
+pub overflow_sub-byte : goal.overflow_sub-byte
+overflow_sub-byte c = (digit_from c.args.run.now c.loop-byte.byte-index c.loop-byte-test.true c.loop-byte.invariant.0).0
 
 pub loop-byte-preserved : goal.loop-byte-preserved
 loop-byte-preserved c =
@@ -17,4 +17,4 @@ loop-byte-preserved c =
 
 pub returns : goal.returns
 returns c =
-    ap Some (sym (at_drop_all (number_after c.loop-byte.value) c.args.run.now c.loop-byte.byte-index c.loop-byte-test.false) ∙ c.loop-byte.invariant.1) ∙ ap (λ b. cond b (Some (number_after 0 c.args.run.now)) None) (sym c.if-not-is-number.false ∙ c.is-number.ensures)
+    ap Some (sym (at_drop_all (number_after c.loop-byte.value) c.args.run.now c.loop-byte.byte-index c.loop-byte-test.false) ∙ c.loop-byte.invariant.1) ∙ ap (λ b. cond b (Some (number_after 0 c.args.run.now)) None) (sym c.if-not-is_number.false ∙ c.is_number.ensures)

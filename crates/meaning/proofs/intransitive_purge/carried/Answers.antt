@@ -17,6 +17,6 @@ pub loop-i-preserved : goal.loop-i-preserved
 loop-i-preserved c = (
   length-set _ _ _ ∙ c.loop-i.invariant.0,
   carried_back (may_affect c.args.flows.now) (owner_in c.args.owners.now) c.args.console
-      c.owner-from.result c.loop-i.sources c.with-source-sources.result c.with-source-sources.ensures
+      c.owner-from.result c.loop-i.sources c.with_source-sources.result c.with_source-sources.ensures
       c.args.sequence.now c.loop-i.marks c.loop-i.i c.has.result (omega arith) (omega arith) (omega arith) c.owner-from.ensures c.has.ensures c.loop-i.invariant.1,
 )

@@ -7,5 +7,5 @@ use Rattle.meaning.proofs.kept.same_kept.Given as goal
 abbrev pub invariant-loop-i : goal.invariant-loop-i
 invariant-loop-i l =
     (l.j ≤ length l.right)
-    × (same_sequence (kept (drop l.i l.left-marks) (drop l.i l.left)) (kept (drop l.j l.right-marks) (drop l.j l.right))
-    ≡ same_sequence (kept l.left-marks l.left) (kept l.right-marks l.right))
+    × (same_sequence (kept (drop l.i l.left_marks) (drop l.i l.left)) (kept (drop l.j l.right_marks) (drop l.j l.right))
+    ≡ same_sequence (kept l.left_marks l.left) (kept l.right_marks l.right))

@@ -19,7 +19,7 @@ returns g c =
     let p = c.args.left.now in
     let q = c.args.right.now in
     let count = c.commands-commands.result in
-    let all = c.owners-of-owners.result in
+    let all = c.owners_of-owners.result in
     let owners = take (count - 0) all in
     let is_k : c.consoles-consoles.result ≡ k = c.consoles-consoles.ensures ∙ ap consoles_of c.flows-flows.ensures in
     let is_n : count ≡ n = c.commands-commands.ensures ∙ ap commands_of c.lockouts.ensures in
@@ -27,7 +27,7 @@ returns g c =
     let commands : v.commands ≡ n = omega arith in
     ap Ok (c.alike.ensures ∙ ap (λ f. alike_asked m (consoles_of f) (may_affect f) owners u p q) c.flows-flows.ensures)
     ∙ asked_answered m (g.met.M.Meaning.lawful c.args.meaning.now) k n (may_affect flows) flows.selves v (g.C.Control.lawful c.args.control.now) consoles commands
-    owners (length-take-le (count - 0) all (omega arith) ∙ omega arith) (λ i h. get_or-take (count - 0) all i 0 (omega arith) ∙ c.owners-of-owners.ensures i (omega arith))
-    u (omega arith) p q c.if-left-gt-MOST-COMPARED.false c.if-right-gt-MOST-COMPARED.false
-    (ap (λ i. all_below i p) (sym is_n) ∙ sym c.all-below.ensures ∙ c.if-not-all-below.false)
-    (ap (λ i. all_below i q) (sym is_n) ∙ sym c.all-below-else-not-all-below.ensures ∙ c.if-not-all-below-2.false)
+    owners (length-take-le (count - 0) all (omega arith) ∙ omega arith) (λ i h. get_or-take (count - 0) all i 0 (omega arith) ∙ c.owners_of-owners.ensures i (omega arith))
+    u (omega arith) p q c.if-left-gt-MOST_COMPARED.false c.if-right-gt-MOST_COMPARED.false
+    (ap (λ i. all_below i p) (sym is_n) ∙ sym c.all_below.ensures ∙ c.if-not-all_below.false)
+    (ap (λ i. all_below i q) (sym is_n) ∙ sym c.all_below-else-not-all_below.ensures ∙ c.if-not-all_below-2.false)

@@ -2,7 +2,7 @@ use Rattle.std.proofs.Common.{ℕ, ◌<◌, Bool, List, [], ◌∷◌, ◌++◌,
 use Rattle.meaning.specs.Agreeing.{told_alike}
 use Rattle.meaning.proofs.Passing.{filled_with, filled_without, empty_with}
 use Rattle.meaning.proofs.transmitted.agreeing_at.Goals as goal
-use Rattle.meaning.proofs.transmitted.agreeing_at.Goals.{then_agrees, else-agrees}
+use Rattle.meaning.proofs.transmitted.agreeing_at.Goals.{then-agrees, else-agrees}
 
 pub loop-console-preserved : goal.loop-console-preserved
 loop-console-preserved c =
@@ -14,7 +14,7 @@ loop-console-preserved c =
     let empty = c.loop-console.invariant.1 in
     let small : n < 32 = omega (arith, c.args.flows.now.count.1) in
     elim c.if-agrees.branch [
-      | then_agrees w ↦
+      | then-agrees w ↦
           let more = w.with-same.result in
           rw w.same-is (
             (λ p q known. filled_with n set empty more small w.with-same.ensures (agree p q) c.agrees.result (c.agrees.ensures p q known) w.if-agrees.true (filled p q known)),

@@ -6,7 +6,7 @@ use Rattle.meaning.proofs.transmitted.agreeing_on.Goals as goal
 pub loop-command-preserved : goal.loop-command-preserved
 loop-command-preserved c =
     rw (take_more c.args.left.now c.loop-command.command-index 0 (omega arith))
-    (c.next-row-row.ensures (take c.loop-command.command-index c.args.left.now) c.loop-command.invariant)
+    (c.next_row-row.ensures (take c.loop-command.command-index c.args.left.now) c.loop-command.invariant)
 
 pub returns : goal.returns
 returns c =

@@ -28,8 +28,8 @@ loop-j-preserved c =
       length-set _ _ _ ∙ c.loop-j.invariant.0,
       λ p above.
           let before = c.loop-j.invariant.1 p above in
-          row_more (λ k set. AgreeingSet flows owners (p ++ (a ∷ [])) (take k right) set) row j c.agreeing-at.result (omega arith) before
+          row_more (λ k set. AgreeingSet flows owners (p ++ (a ∷ [])) (take k right) set) row j c.agreeing_at.result (omega arith) before
           (rw one_more
-          (c.agreeing-at.ensures p (take j right)
+          (c.agreeing_at.ensures p (take j right)
           record { above = rw one_more at (above (j + 1) (omega arith)); beside = before j (omega arith); across = above j (omega arith) })),
     )

@@ -10,10 +10,10 @@ loop-u-preserved c =
     let alone : (j : ℕ) → holds c.with.result j ≡ eqb j n = λ j. c.with.ensures j ∙ ap (λ b. b || (eqb j n && ltb j 32)) (c.none.ensures j) ∙ has_room j n (omega arith) in
     (length-set _ _ _ ∙ c.loop-u.invariant.0, bare_more _ _ _ (omega arith) alone c.loop-u.invariant.1)
 
-pub invariant-of-result : goal.invariant-of-result
-invariant-of-result c =
+pub invariant_of-result : goal.invariant_of-result
+invariant_of-result c =
     let n : ℕ = c.loop-u.u in
     let all : n ≡ c.args.consoles = omega arith in
     let flows = c.loop-u.invariant.1 in
     let within : (u v : ℕ) → affects c.loop-u.rows u v ≡ true → (u < n) × (v < n) = λ u v e. bare_within n u v (sym (flows u v) ∙ e) in
-    (search rules, ((λ u h. flows u u ∙ bare_itself n u (omega (arith, h, all))), ((λ u v e. (omega (arith, (within u v e).0, all), omega (arith, (within u v e).1, all))), tt)))
+    record { count = search rules; selves = (λ u h. flows u u ∙ bare_itself n u (omega (arith, h, all))); within = (λ u v e. (omega (arith, (within u v e).0, all), omega (arith, (within u v e).1, all))) }

@@ -9,4 +9,4 @@ pub returns-in-Some : goal.returns-in-Some
 returns-in-Some c =
     let fits : SFits w16 c.in-Some.count = search rules in
     let kept : to_z w64 (of_z w64 c.from.result) ≡ c.in-Some.count = omega (arith, ints, c.from.ensures) in
-    c.unwrap-or.ensures ∙ stored_from c.tenths.result _ _ c.in-Some.count c.tenths.ensures kept c.zero.ensures ∙ ap reading_stored (sym c.in-Some.is)
+    c.unwrap_or.ensures ∙ stored_from c.tenths.result _ _ c.in-Some.count c.tenths.ensures kept c.zero.ensures ∙ ap reading_stored (sym c.in-Some.is)

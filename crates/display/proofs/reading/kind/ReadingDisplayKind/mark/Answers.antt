@@ -14,7 +14,7 @@ returns-after-x-lt0 c =
     let fits : SFits w16 z = search rules in
     let kept = to_z-of_z w16 z fits in
     let minus : ℤ → List ℕ = λ a. cond (lt_z a (pos 0)) (45 ∷ []) [] in
-    c.push-decimal.ensures ∙ signed_written _ _ z c.in-Of.x.range (elim c.if-x-lt0.branch [
+    c.push_decimal.ensures ∙ signed_written _ _ z c.in-Of.x.range (elim c.if-x-lt0.branch [
       | then-x-lt0 w ↦ ap text_of w.mark-is ∙ w.push.ensures ∙ ap (λ l. take 8 (l ++ (45 ∷ []))) c.new-mark.ensures ∙ ap (λ b. cond b (45 ∷ []) []) (sym w.if-x-lt0.true) ∙ ap minus kept
       | else-x-lt0 w ↦ ap text_of w.mark-is ∙ c.new-mark.ensures ∙ ap (λ b. cond b (45 ∷ []) []) (sym w.if-x-lt0.false) ∙ ap minus kept
-    ]) (c.from.ensures ∙ c.unsigned-abs.ensures.value ∙ ap nat_abs kept) ∙ ap reading_mark (sym c.in-Of.is)
+    ]) (c.from.ensures ∙ c.unsigned_abs.ensures.value ∙ ap nat_abs kept) ∙ ap reading_mark (sym c.in-Of.is)

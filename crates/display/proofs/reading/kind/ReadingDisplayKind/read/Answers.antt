@@ -6,5 +6,5 @@ use Rattle.display.proofs.reading.kind.ReadingDisplayKind.read.Goals as goal
 
 pub returns-in-Negative : goal.returns-in-Negative
 returns-in-Negative c =
-    let told = c.in-ok-run.ensures in
+    let told = c.in_ok-run.ensures in
     c.counted-in-Negative.ensures ∙ reads_below c.in-Negative.run'.now c.args.run.now (ap run_in (sym c.in-Negative.is) ∙ told.1.0) (ap sort_in (sym c.in-Negative.is) ∙ told.0)
