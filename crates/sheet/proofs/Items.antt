@@ -14,10 +14,10 @@ module _ {A : Type 0} (reads : List ℕ → Result A Cause) (b : ℕ) (s run : L
   item_read cut r e = ap (λ t. item_from t b s j) e ∙ cut_item cut
 
 -- what holds of the mark holds of it with the byte behind it
-pub item_keeps : {A : Type 0} (P : A → Type 0) (r : Result A MarkFault) (b : ℕ) (s : List ℕ) (j : ℕ) (t : Result (A × ℕ) MarkFault) → t ≡ item_from r b s j → IfOk r P → IfOk {X = A × ℕ} t (λ y. P y.0)
-item_keeps {A} P r b s j t e h = subst (λ (u : Result (A × ℕ) MarkFault). IfOk {X = A × ℕ} u (λ y. P y.0)) (sym e) (kept r (byte_at b s j) h)
+pub item_keeps : {A : Type 0} (P : A → Type 0) (r : Result A MarkFault) (b : ℕ) (s : List ℕ) (j : ℕ) (t : Result (A × ℕ) MarkFault) → t ≡ item_from r b s j → IfOk r P → IfOk {T = A × ℕ} t (λ y. P y.0)
+item_keeps {A} P r b s j t e h = subst (λ (u : Result (A × ℕ) MarkFault). IfOk {T = A × ℕ} u (λ y. P y.0)) (sym e) (kept r (byte_at b s j) h)
   where
-    kept : (r : Result A MarkFault) (q : Result ℕ MarkFault) → IfOk r P → IfOk {X = A × ℕ} (on r (λ x. on q (λ k. Ok (x, k)))) (λ y. P y.0)
+    kept : (r : Result A MarkFault) (q : Result ℕ MarkFault) → IfOk r P → IfOk {T = A × ℕ} (on r (λ x. on q (λ k. Ok (x, k)))) (λ y. P y.0)
     kept (Ok x) (Ok k) h = h
     kept (Ok x) (Err f) h = tt
     kept (Err f) q h = tt

@@ -17,5 +17,5 @@ pub fn names_readings(sheet: &[u8], refusal: Refusal) -> bool
         return false;
     }
     let run = &sheet[place..run_end(sheet, place)];
-    run == b"reading"
+    run == b"reading".as_slice()
 }

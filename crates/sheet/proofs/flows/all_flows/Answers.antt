@@ -10,9 +10,9 @@ use Rattle.sheet.proofs.flows.all_flows.Goals as goal
 
 pub loop-place-init : goal.loop-place-init
 loop-place-init c =
-    let bare = c.in-ok-board.ensures in
-    listing_start c.args.counts.now c.args.sheet.now c.args.line c.args.at c.in-ok-board.board
-    (lists_none c.args.counts.now c.in-ok-board.board bare.flows.0 bare.lockouts.0 bare.flows.1 bare.lockouts.1)
+    let bare = c.in_ok-board.ensures in
+    listing_start c.args.counts.now c.args.sheet.now c.args.line c.args.at c.in_ok-board.board
+    (lists_none c.args.counts.now c.in_ok-board.board bare.flows.0 bare.lockouts.0 bare.flows.1 bare.lockouts.1)
 
 pub returns-in-err-pair : goal.returns-in-err-pair
 returns-in-err-pair c =
@@ -35,10 +35,10 @@ returns-in-err-allow c =
 pub loop-place-preserved : goal.loop-place-preserved
 loop-place-preserved c =
     let n = c.args.counts.now in
-    let p = c.in-ok-pair.pair in
+    let p = c.in_ok-pair.pair in
     let some : 0 < n.consoles = omega (arith, c.requires.0.consoles.0) in
-    listing_more n c.args.sheet.now c.args.line c.args.at c.loop-place.board c.loop-place.low c.loop-place.row c.loop-place.place c.loop-place.invariant c.allow.new.self (p, c.in-ok-pair.behind) c.loop-place-test.true c.in-ok-pair.ensures.read c.in-ok-pair.ensures.bound.0 c.in-ok-pair.ensures.bound.1
-    (lists_more n c.loop-place.board c.allow.new.self c.loop-place.invariant.so_far p c.loop-place.invariant.lists some c.allow.ensures.consoles c.allow.ensures.lockouts (λ u v. c.allow.ensures.flows u v ∙ cond-true _ _ _ (ap is_ok c.in-ok-allow.was)))
+    listing_more n c.args.sheet.now c.args.line c.args.at c.loop-place.board c.loop-place.low c.loop-place.row c.loop-place.place c.loop-place.invariant c.allow.new.self (p, c.in_ok-pair.behind) c.loop-place-test.true c.in_ok-pair.ensures.read c.in_ok-pair.ensures.bound.0 c.in_ok-pair.ensures.bound.1
+    (lists_more n c.loop-place.board c.allow.new.self c.loop-place.invariant.so_far p c.loop-place.invariant.lists some c.allow.ensures.consoles c.allow.ensures.lockouts (λ u v. c.allow.ensures.flows u v ∙ cond-true _ _ _ (ap is_ok c.in_ok-allow.was)))
 
 pub returns : goal.returns
 returns c =

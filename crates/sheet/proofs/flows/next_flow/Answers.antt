@@ -18,10 +18,10 @@ returns-in-err-numbered c =
 
 pub returns : goal.returns
 returns c =
-    let y = c.in-ok-numbered.field-0 in
+    let y = c.in_ok-numbered.field-0 in
     let V = flow_due c.args.consoles c.args.low c.args.sheet.now c.args.at in
-    let was = numbered_ok 5 c.flow-on.result y c.in-ok-numbered.ensures in
+    let was = numbered_ok 5 c.flow_on.result y c.in_ok-numbered.ensures in
     record {
-      read = block_ok 5 c.args.line c.flow-on.result V c.flow-on.ensures.read y was;
-      bound = IfOk-at_ok (λ z. (c.args.low ≤ z.0) × (z.0 < c.args.consoles * c.args.consoles)) was c.flow-on.ensures.bound;
+      read = block_ok 5 c.args.line c.flow_on.result V c.flow_on.ensures.read y was;
+      bound = IfOk-at_ok (λ z. (c.args.low ≤ z.0) × (z.0 < c.args.consoles * c.args.consoles)) was c.flow_on.ensures.bound;
     }

@@ -1,4 +1,6 @@
-use Rattle.std.proofs.Common.{codes, sym, ap, ◌∙◌, arith}
+use Rattle.std.proofs.Common.{◌≡◌, codes, sym, ap, ◌∙◌, subst, arith}
+use Rattle.std.specs.Bool.{Decides}
+use Rattle.std.specs.List.{between}
 use Rattle.std.proofs.lemmas.Slice.Eq.{slice_eq-Decides}
 use Rattle.mark.specs.Runs.{same_bytes}
 use Rattle.display.specs.ReadingsLemmas.{told_as_bytes}
@@ -24,7 +26,8 @@ pub returns : goal.returns
 returns c =
     let sheet = c.args.sheet.now in
     let t = c.told-told.result in
-    sym (told_as_bytes _ (codes "reading") _ (slice_eq-Decides Decides-eqb _ _ _ c.eq.ensures))
-    ∙ ap (λ run. same_bytes run (codes "reading")) c.run-end.ensures.run
+    let run = between t.place c.run_end.result sheet in
+    sym (told_as_bytes run (codes "reading") _ (subst (λ y. Decides c.eq.result (run ≡ y)) c.as_slice.ensures (slice_eq-Decides Decides-eqb run _ _ c.eq.ensures)))
+    ∙ ap (λ run. same_bytes run (codes "reading")) c.run_end.ensures.run
     ∙ by_its_run sheet t c.if-told-ne4.false c.if-told-ne2.false c.if-told-ne1.false
     ∙ ap (readings_named sheet) c.told-told.ensures

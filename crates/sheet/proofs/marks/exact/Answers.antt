@@ -5,4 +5,4 @@ use Rattle.sheet.proofs.Items.{item_read}
 use Rattle.sheet.proofs.marks.exact.Goals as goal
 
 pub returns : goal.returns
-returns c = c.item.ensures ∙ item_read (exact_reads c.args.due) blank c.args.sheet.now _ c.args.at _ c.in-ok-run.ensures.cut _ c.exact-in.ensures
+returns c = c.item.ensures ∙ item_read (exact_reads c.args.due) blank c.args.sheet.now _ c.args.at _ c.in_ok-run.ensures.cut _ c.exact_in.ensures

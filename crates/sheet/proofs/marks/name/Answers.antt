@@ -5,4 +5,4 @@ use Rattle.sheet.proofs.Items.{item_read}
 use Rattle.sheet.proofs.marks.name.Goals as goal
 
 pub returns : goal.returns
-returns c = c.item.ensures ∙ item_read (name_reads c.args.due.now) c.args.then c.args.sheet.now _ c.args.at _ c.in-ok-run.ensures.cut _ c.name-in.ensures
+returns c = c.item.ensures ∙ item_read (name_reads c.args.due.now) c.args.then c.args.sheet.now _ c.args.at _ c.in_ok-run.ensures.cut _ c.name_in.ensures

@@ -25,7 +25,7 @@ keep-requires g c =
     let s = c.args.sheet.now in
     let p = c.loop-due.progress in
     let q = c.next.new.self in
-    let t = MatchOption-at_some (Ended reads h s p q) (λ y. Stepped reads h s p q y.0 y.1) (c.in-Some.due, c.in-Some.entry) c.in-Some.is c.in-ok-due.ensures in
+    let t = MatchOption-at_some (Ended reads h s p q) (λ y. Stepped reads h s p q y.0 y.1) (c.in-Some.due, c.in-Some.entry) c.in-Some.is c.in_ok-due.ensures in
     room_for h.counts c.requires.0 (length c.args.steps.now) (length c.args.owners.now) (length c.args.displays.now) (length c.loop-due.steps) (length c.loop-due.owners) (length c.loop-due.displays) c.requires.1 c.loop-due.auto.steps c.loop-due.auto.owners c.loop-due.auto.displays c.in-Some.due
     (subst (StandsLeft h.counts) t.was c.loop-due.invariant.ready.stands)
 
@@ -41,7 +41,7 @@ loop-due-preserved g c =
     let steps = c.args.steps.now in
     let owners = c.args.owners.now in
     let displays = c.args.displays.now in
-    let t = MatchOption-at_some (Ended reads h s p q) (λ y. Stepped reads h s p q y.0 y.1) (d, v) c.in-Some.is c.in-ok-due.ensures in
+    let t = MatchOption-at_some (Ended reads h s p q) (λ y. Stepped reads h s p q y.0 y.1) (d, v) c.in-Some.is c.in_ok-due.ensures in
     let stands = subst (StandsLeft h.counts) t.was c.loop-due.invariant.ready.stands in
     filling_more reads h s g.D.DisplayKind.cell (rows_at reads (counted h) s (plan_of (counted h)) 3 c.args.at) steps owners displays p c.loop-due.steps c.loop-due.owners c.loop-due.displays c.loop-due.invariant q d v c.keep.new.steps c.keep.new.owners c.keep.new.displays t
     (room_for h.counts c.requires.0 (length steps) (length owners) (length displays) (length steps) (length owners) (length displays) c.requires.1 refl refl refl d stands)

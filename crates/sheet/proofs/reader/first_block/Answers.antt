@@ -22,9 +22,9 @@ returns-in-err-numbered g c =
 pub returns : goal.returns
 returns g c =
     let s = c.args.sheet.now in
-    let y = c.in-ok-numbered.field-0 in
-    let was = numbered_ok 1 c.first-lines.result y c.in-ok-numbered.ensures in
+    let y = c.in_ok-numbered.field-0 in
+    let was = numbered_ok 1 c.first_lines.result y c.in_ok-numbered.ensures in
     record {
-      read = two_ok (names_at (names_in counts_title) s 0) (counts_at g.D.DisplayKind.kind s) (headed c.first-lines.result) c.first-lines.ensures.read _ (ap headed was);
-      within = IfOk-at_ok (λ z. Within z.0.counts) was c.first-lines.ensures.within;
+      read = two_ok (names_at (names_in counts_title) s 0) (counts_at g.D.DisplayKind.kind s) (headed c.first_lines.result) c.first_lines.ensures.read _ (ap headed was);
+      within = IfOk-at_ok (λ z. Within z.0.counts) was c.first_lines.ensures.within;
     }

@@ -32,7 +32,7 @@ loop-preserved g c =
     let s = c.args.sheet.now in
     let p = c.loop.progress in
     let q = c.next.new.self in
-    let t = MatchOption-at_some (Ended reads h s p q) (λ y. Stepped reads h s p q y.0 y.1) c.in-Some.field-0 c.in-Some.is c.in-ok-next.ensures in
+    let t = MatchOption-at_some (Ended reads h s p q) (λ y. Stepped reads h s p q y.0 y.1) c.in-Some.field-0 c.in-Some.is c.in_ok-next.ensures in
     (t.ready, t.behind ∙ c.loop.invariant.1, c.loop.invariant.2 ∙ pass_more reads h s p q c.in-Some.field-0.0 c.in-Some.field-0.1 t)
 
 pub returns : goal.returns
@@ -42,6 +42,6 @@ returns g c =
     let s = c.args.sheet.now in
     let p = c.loop.progress in
     let q = c.next.new.self in
-    let t = MatchOption-at_none (Ended reads h s p q) (λ y. Stepped reads h s p q y.0 y.1) c.in-default.is c.in-ok-next.ensures in
+    let t = MatchOption-at_none (Ended reads h s p q) (λ y. Stepped reads h s p q y.0 y.1) c.in_default.is c.in_ok-next.ensures in
     ap (λ r. Ok (r.line, r.at)) t.same
     ∙ pass_done reads h s (rows_at reads (counted h) s (plan_of (counted h)) 3 c.args.at) (3 + length (plan_of (counted h))) p c.loop.invariant.2 t.none c.loop.invariant.1

@@ -109,19 +109,19 @@ returns g c =
     let steps = c.args.steps.now in
     let owners = c.args.owners.now in
     let displays = c.args.displays.now in
-    let h = c.in-ok-heading.heading in
-    let i = c.in-ok-heading.at in
+    let h = c.in_ok-heading.heading in
+    let i = c.in_ok-heading.at in
     let k = h.counts.consoles in
-    let j = c.in-ok-line.end in
+    let j = c.in_ok-line.end in
     let n = 3 + length (plan_of (counted h)) in
     let b = c.in-ok-board.board in
     let W = rows_at reads (counted h) s (plan_of (counted h)) 3 i in
     let X = read_answer kind reads (length steps) (length owners) (length displays) s in
     let room = suffices (length steps) (length owners) (length displays) c.if-steps-lt2400.false c.if-owners-lt24.false c.if-displays-lt1200.false in
-    let passed = rows_passed n W c.in-ok-line.line j c.in-ok-line.ensures in
-    let listed = board_from h.counts b (flows_at k s (k * k) 0 c.in-ok-line.line j) c.in-ok-board.ensures in
+    let passed = rows_passed n W c.in_ok-line.line j c.in_ok-line.ensures in
+    let listed = board_from h.counts b (flows_at k s (k * k) 0 c.in_ok-line.line j) c.in-ok-board.ensures in
     let x : Sheet g.row.D.Denot = record { counted = counted h; entries = passed.0; flows = listed.0 } in
-    let answer = answer_ok kind reads s (length steps) (length owners) (length displays) c.if-sheet-gt40960.false room x (all_read kind reads s (counted h) i c.in-ok-heading.ensures.read passed.0 j passed.1 listed.0 (ap (λ m. flows_at k s (k * k) 0 m j) (sym passed.2) ∙ listed.1)) in
+    let answer = answer_ok kind reads s (length steps) (length owners) (length displays) c.if-sheet-gt40960.false room x (all_read kind reads s (counted h) i c.in_ok-heading.ensures.read passed.0 j passed.1 listed.0 (ap (λ m. flows_at k s (k * k) 0 m j) (sym passed.2) ∙ listed.1)) in
     record {
       found = found_ok X (record { counts = h.counts; start = h.start; board = b }) x answer (record {
         states = refl;

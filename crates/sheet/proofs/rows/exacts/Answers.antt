@@ -11,7 +11,7 @@ returns-in-err-next c =
 
 pub loop-number-preserved : goal.loop-number-preserved
 loop-number-preserved c =
-    c.loop-number.invariant ∙ exacts_more c.args.due.now c.args.sheet.now c.loop-number.number-index c.loop-number.place c.loop-number-test.true _ c.in-ok-next.ensures
+    c.loop-number.invariant ∙ exacts_more c.args.due.now c.args.sheet.now c.loop-number.number-index c.loop-number.place c.loop-number-test.true _ c.in_ok-next.ensures
 
 pub returns : goal.returns
 returns c = sym (c.loop-number.invariant ∙ exacts_end c.args.due.now c.args.sheet.now c.loop-number.number-index c.loop-number.place c.loop-number-test.false)

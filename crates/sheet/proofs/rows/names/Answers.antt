@@ -13,7 +13,7 @@ loop-i-preserved c =
       | then-i-due w ↦ w.then-is ∙ cond_below _ _ blank newline w.if-i-due.true
       | else-i-due w ↦ cond_above _ _ blank newline _ w.if-i-due.false w.then-is
     ] in
-    c.loop-i.invariant ∙ names_more (λ x. x.now) c.args.due.now _ c.args.sheet.now c.loop-i.i c.loop-i.place _ c.loop-i-test.true e _ c.in-ok-next.ensures
+    c.loop-i.invariant ∙ names_more (λ x. x.now) c.args.due.now _ c.args.sheet.now c.loop-i.i c.loop-i.place _ c.loop-i-test.true e _ c.in_ok-next.ensures
 
 pub returns-in-err-next : goal.returns-in-err-next
 returns-in-err-next c =

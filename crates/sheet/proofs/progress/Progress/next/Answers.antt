@@ -28,10 +28,10 @@ returns g c =
     let h = c.args.heading.now in
     let s = c.args.sheet.now in
     let d = c.in-Some.due in
-    let v = c.in-ok-entry.entry in
+    let v = c.in_ok-entry.entry in
     let V = value_at g.D.DisplayKind.reads (counted h) s (row_of h.counts d) p.at in
-    let was = numbered_ok c.block.result c.row-on.result _ c.in-ok-entry.ensures in
-    let entry : Ok (value_of v, c.in-ok-entry.at) ≡ on_line p.line c.block.result V = block_ok c.block.result p.line (told c.row-on.result) V c.row-on.ensures.read (value_of v, c.in-ok-entry.at) (ap told was) in
+    let was = numbered_ok c.block.result c.row_on.result _ c.in_ok-entry.ensures in
+    let entry : Ok (value_of v, c.in_ok-entry.at) ≡ on_line p.line c.block.result V = block_ok c.block.result p.line (told c.row_on.result) V c.row_on.ensures.read (value_of v, c.in_ok-entry.at) (ap told was) in
     stepped g.D.DisplayKind.reads h s p d c.in-Some.is c.requires.1 c.requires.0 _ v c.after-self.ensures refl
-    (IfOk-at_ok (λ y. Kinded d y.0) was c.row-on.ensures.kind)
+    (IfOk-at_ok (λ y. Kinded d y.0) was c.row_on.ensures.kind)
     (entry ∙ ap (λ b. on_line p.line b V) c.block.ensures)
