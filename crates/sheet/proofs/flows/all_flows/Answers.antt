@@ -14,21 +14,21 @@ loop-place-init c =
     listing_start c.args.counts.now c.args.sheet.now c.args.line c.args.at c.in_ok-board.board
     (lists_none c.args.counts.now c.in_ok-board.board bare.flows.0 bare.lockouts.0 bare.flows.1 bare.lockouts.1)
 
-pub returns-in-err-pair : goal.returns-in-err-pair
-returns-in-err-pair c =
+pub returns-in_err-pair : goal.returns-in_err-pair
+returns-in_err-pair c =
     let n = c.args.counts.now in
     let s = c.args.sheet.now in
-    let f = c.in-err-pair.field-0.0 in
-    board_refused n c.from-residual-in-err-pair.result (flows_at n.consoles s (n.consoles * n.consoles) 0 c.args.line c.args.at) f
-    (left_as c.from-residual-in-err-pair.result (refusal_of f) c.from-residual-in-err-pair.ensures.1)
-    (listing_fault n s c.args.line c.args.at c.loop-place.board c.loop-place.low c.loop-place.row c.loop-place.place c.loop-place.invariant f c.loop-place-test.true c.in-err-pair.ensures.read)
+    let f = c.in_err-pair.field-0.0 in
+    board_refused n c.from_residual-in_err-pair.result (flows_at n.consoles s (n.consoles * n.consoles) 0 c.args.line c.args.at) f
+    (left_as c.from_residual-in_err-pair.result (refusal_of f) c.from_residual-in_err-pair.ensures.1)
+    (listing_fault n s c.args.line c.args.at c.loop-place.board c.loop-place.low c.loop-place.row c.loop-place.place c.loop-place.invariant f c.loop-place-test.true c.in_err-pair.ensures.read)
 
-pub returns-in-err-allow : goal.returns-in-err-allow
-returns-in-err-allow c =
+pub returns-in_err-allow : goal.returns-in_err-allow
+returns-in_err-allow c =
     let n = c.args.counts.now in
-    let p = c.in-ok-pair.pair in
+    let p = c.in_ok-pair.pair in
     let some : 0 < n.consoles = omega (arith, c.requires.0.consoles.0) in
-    let refused : Err c.in-err-allow.field-0.0 ≡ Ok tt = c.in-err-allow.ensures.answer ∙ ap (λ k. allow_answer k (p / n.consoles) (p % n.consoles)) c.loop-place.invariant.lists.consoles ∙ allowed n.consoles p some c.in-ok-pair.ensures.bound.1 in
+    let refused : Err c.in_err-allow.field-0.0 ≡ Ok tt = c.in_err-allow.ensures.answer ∙ ap (λ k. allow_answer k (p / n.consoles) (p % n.consoles)) c.loop-place.invariant.lists.consoles ∙ allowed n.consoles p some c.in_ok-pair.ensures.bound.1 in
     let z : ◌≡◌ {A = ℕ} 0 1 = cc in
     absurd (omega arith)
 

@@ -9,4 +9,4 @@ returns g c =
     (word_then blank (ap decimal c.commands.ensures.value) _ c.number-at-2.ensures
     (word_then blank (ap decimal c.consoles.ensures.value) _ c.number-at-3.ensures
     (word_then blank (ap decimal c.start.ensures.value) _ c.number-at-4.ensures
-    (word_last newline c.kind-name.ensures c.word.ensures))))
+    (word_last newline c.kind_name.ensures c.word.ensures))))

@@ -9,14 +9,14 @@ use Rattle.sheet.specs.declared.fault.SheetFault.{SheetFault}
 use Rattle.sheet.proofs.Going.{left_as, numbered_ok, numbered_err, two_ok, two_err}
 use Rattle.sheet.proofs.reader.first_block.Goals as goal
 
-pub returns-in-err-numbered : goal.returns-in-err-numbered
-returns-in-err-numbered g c =
+pub returns-in_err-numbered : goal.returns-in_err-numbered
+returns-in_err-numbered g c =
     let s = c.args.sheet.now in
-    let f = c.in-err-numbered.field-0.0 in
-    let was = numbered_err 1 c.first-lines.result f.0 f.1 c.in-err-numbered.ensures in
+    let f = c.in_err-numbered.field-0.0 in
+    let was = numbered_err 1 c.first_lines.result f.0 f.1 c.in_err-numbered.ensures in
     record {
-      read = ap headed (left_as c.from-residual.result (record { row = f.0; block = f.1 }) c.from-residual.ensures.1) ∙ ap (λ n. Err (record { row = f.0; block = n })) was.1 ∙ two_err (names_at (names_in counts_title) s 0) (counts_at g.D.DisplayKind.kind s) (headed c.first-lines.result) c.first-lines.ensures.read f.0 (ap headed was.0);
-      within = IfOk-from_err c.from-residual.result _ c.from-residual.ensures.0;
+      read = ap headed (left_as c.from_residual.result (record { row = f.0; block = f.1 }) c.from_residual.ensures.1) ∙ ap (λ n. Err (record { row = f.0; block = n })) was.1 ∙ two_err (names_at (names_in counts_title) s 0) (counts_at g.D.DisplayKind.kind s) (headed c.first_lines.result) c.first_lines.ensures.read f.0 (ap headed was.0);
+      within = IfOk-from_err c.from_residual.result _ c.from_residual.ensures.0;
     }
 
 pub returns : goal.returns

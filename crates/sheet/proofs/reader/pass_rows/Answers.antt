@@ -17,13 +17,13 @@ loop-init g c =
     let e = c.start-progress.ensures in
     (subst (Ready h.counts) (sym e) (pass_ready reads h s c.requires c.args.at), ap (line_behind h.counts) e ∙ pass_lines reads h s c.args.at, ap (λ R. on {B = ℕ} R (λ z. Ok z.1)) (pass_whole reads h s c.args.at) ∙ ap (reached reads h s) (sym e))
 
-pub returns-in-err-next : goal.returns-in-err-next
-returns-in-err-next g c =
+pub returns-in_err-next : goal.returns-in_err-next
+returns-in_err-next g c =
     let reads = g.D.DisplayKind.reads in
     let h = c.args.heading.now in
     let s = c.args.sheet.now in
-    left_as c.from-residual.result c.in-err-next.field-0.0 c.from-residual.ensures.1
-    ∙ pass_fault reads h s (rows_at reads (counted h) s (plan_of (counted h)) 3 c.args.at) (3 + length (plan_of (counted h))) c.loop.progress c.loop.invariant.2 c.in-err-next.field-0.0 c.in-err-next.ensures
+    left_as c.from_residual.result c.in_err-next.field-0.0 c.from_residual.ensures.1
+    ∙ pass_fault reads h s (rows_at reads (counted h) s (plan_of (counted h)) 3 c.args.at) (3 + length (plan_of (counted h))) c.loop.progress c.loop.invariant.2 c.in_err-next.field-0.0 c.in_err-next.ensures
 
 pub loop-preserved : goal.loop-preserved
 loop-preserved g c =

@@ -14,89 +14,89 @@ use Rattle.sheet.proofs.reader.read.Goals as goal
 suffices : (a b d : ℕ) → 2400 ≤ a → 24 ≤ b → 1200 ≤ d → store_suffices a b d ≡ true
 suffices a b d p q r = and_from (leb 2400 a) _ (le-leb 2400 a p) (and_from (leb 24 b) (leb 1200 d) (le-leb 24 b q) (le-leb 1200 d r))
 
-pub returns-in-err-heading : goal.returns-in-err-heading
-returns-in-err-heading g c =
+pub returns-in_err-heading : goal.returns-in_err-heading
+returns-in_err-heading g c =
     let kind = g.D.DisplayKind.kind in
     let reads = g.D.DisplayKind.reads in
     let s = c.args.sheet.now in
     let steps = c.args.steps.now in
     let owners = c.args.owners.now in
     let displays = c.args.displays.now in
-    let f = c.in-err-heading.field-0.0 in
+    let f = c.in_err-heading.field-0.0 in
     let X = read_answer kind reads (length steps) (length owners) (length displays) s in
     let room = suffices (length steps) (length owners) (length displays) c.if-steps-lt2400.false c.if-owners-lt24.false c.if-displays-lt1200.false in
-    let answer = answer_err kind reads s (length steps) (length owners) (length displays) c.if-sheet-gt40960.false room f (first_fault kind reads s f c.in-err-heading.ensures.read) in
+    let answer = answer_err kind reads s (length steps) (length owners) (length displays) c.if-sheet-gt40960.false room f (first_fault kind reads s f c.in_err-heading.ensures.read) in
     record {
-      found = found_err X c.from-residual.result (refusal_of f) (left_as c.from-residual.result (refusal_of f) c.from-residual.ensures.1) answer;
+      found = found_err X c.from_residual.result (refusal_of f) (left_as c.from_residual.result (refusal_of f) c.from_residual.ensures.1) answer;
       steps = store_kept X (λ x. x.entries.steps) steps (refusal_of f) answer;
       owners = store_kept X (λ x. x.entries.owners) owners (refusal_of f) answer;
       displays = store_kept X (λ x. map g.D.DisplayKind.cell x.entries.displays) displays (refusal_of f) answer;
     }
 
-pub returns-in-err-line : goal.returns-in-err-line
-returns-in-err-line g c =
+pub returns-in_err-line : goal.returns-in_err-line
+returns-in_err-line g c =
     let kind = g.D.DisplayKind.kind in
     let reads = g.D.DisplayKind.reads in
     let s = c.args.sheet.now in
     let steps = c.args.steps.now in
     let owners = c.args.owners.now in
     let displays = c.args.displays.now in
-    let h = c.in-ok-heading.heading in
-    let i = c.in-ok-heading.at in
-    let f = c.in-err-line.field-0.0 in
+    let h = c.in_ok-heading.heading in
+    let i = c.in_ok-heading.at in
+    let f = c.in_err-line.field-0.0 in
     let W = rows_at reads (counted h) s (plan_of (counted h)) 3 i in
     let X = read_answer kind reads (length steps) (length owners) (length displays) s in
     let room = suffices (length steps) (length owners) (length displays) c.if-steps-lt2400.false c.if-owners-lt24.false c.if-displays-lt1200.false in
-    let stopped = rows_stopped (3 + length (plan_of (counted h))) W f c.in-err-line.ensures in
-    let answer = answer_err kind reads s (length steps) (length owners) (length displays) c.if-sheet-gt40960.false room f (rows_fault kind reads s (counted h) i c.in-ok-heading.ensures.read f stopped) in
+    let stopped = rows_stopped (3 + length (plan_of (counted h))) W f c.in_err-line.ensures in
+    let answer = answer_err kind reads s (length steps) (length owners) (length displays) c.if-sheet-gt40960.false room f (rows_fault kind reads s (counted h) i c.in_ok-heading.ensures.read f stopped) in
     record {
-      found = found_err X c.from-residual-in-err-line.result (refusal_of f) (left_as c.from-residual-in-err-line.result (refusal_of f) c.from-residual-in-err-line.ensures.1) answer;
+      found = found_err X c.from_residual-in_err-line.result (refusal_of f) (left_as c.from_residual-in_err-line.result (refusal_of f) c.from_residual-in_err-line.ensures.1) answer;
       steps = store_kept X (λ x. x.entries.steps) steps (refusal_of f) answer;
       owners = store_kept X (λ x. x.entries.owners) owners (refusal_of f) answer;
       displays = store_kept X (λ x. map g.D.DisplayKind.cell x.entries.displays) displays (refusal_of f) answer;
     }
 
-pub all-flows-requires : goal.all-flows-requires
-all-flows-requires g c =
-    let h = c.in-ok-heading.heading in
-    let w = c.in-ok-heading.ensures.within in
-    let W = rows_at g.D.DisplayKind.reads (counted h) c.args.sheet.now (plan_of (counted h)) 3 c.in-ok-heading.at in
-    let passed = rows_passed (3 + length (plan_of (counted h))) W c.in-ok-line.line c.in-ok-line.end c.in-ok-line.ensures in
+pub all_flows-requires : goal.all_flows-requires
+all_flows-requires g c =
+    let h = c.in_ok-heading.heading in
+    let w = c.in_ok-heading.ensures.within in
+    let W = rows_at g.D.DisplayKind.reads (counted h) c.args.sheet.now (plan_of (counted h)) 3 c.in_ok-heading.at in
+    let passed = rows_passed (3 + length (plan_of (counted h))) W c.in_ok-line.line c.in_ok-line.end c.in_ok-line.ensures in
     (w, subst (λ n. n ≤ 3631) (sym passed.2) (line_bound h w))
 
-pub returns-in-err-board : goal.returns-in-err-board
-returns-in-err-board g c =
+pub returns-in_err-board : goal.returns-in_err-board
+returns-in_err-board g c =
     let kind = g.D.DisplayKind.kind in
     let reads = g.D.DisplayKind.reads in
     let s = c.args.sheet.now in
     let steps = c.args.steps.now in
     let owners = c.args.owners.now in
     let displays = c.args.displays.now in
-    let h = c.in-ok-heading.heading in
-    let i = c.in-ok-heading.at in
+    let h = c.in_ok-heading.heading in
+    let i = c.in_ok-heading.at in
     let k = h.counts.consoles in
-    let j = c.in-ok-line.end in
+    let j = c.in_ok-line.end in
     let n = 3 + length (plan_of (counted h)) in
-    let e = c.in-err-board.field-0.0 in
+    let e = c.in_err-board.field-0.0 in
     let W = rows_at reads (counted h) s (plan_of (counted h)) 3 i in
     let X = read_answer kind reads (length steps) (length owners) (length displays) s in
     let room = suffices (length steps) (length owners) (length displays) c.if-steps-lt2400.false c.if-owners-lt24.false c.if-displays-lt1200.false in
-    let passed = rows_passed n W c.in-ok-line.line j c.in-ok-line.ensures in
-    let refused = refusal_from h.counts e (flows_at k s (k * k) 0 c.in-ok-line.line j) c.in-err-board.ensures in
-    let answer = answer_err kind reads s (length steps) (length owners) (length displays) c.if-sheet-gt40960.false room refused.0 (flows_fault kind reads s (counted h) i c.in-ok-heading.ensures.read passed.0 j passed.1 refused.0 (ap (λ m. flows_at k s (k * k) 0 m j) (sym passed.2) ∙ refused.1)) in
+    let passed = rows_passed n W c.in_ok-line.line j c.in_ok-line.ensures in
+    let refused = refusal_from h.counts e (flows_at k s (k * k) 0 c.in_ok-line.line j) c.in_err-board.ensures in
+    let answer = answer_err kind reads s (length steps) (length owners) (length displays) c.if-sheet-gt40960.false room refused.0 (flows_fault kind reads s (counted h) i c.in_ok-heading.ensures.read passed.0 j passed.1 refused.0 (ap (λ m. flows_at k s (k * k) 0 m j) (sym passed.2) ∙ refused.1)) in
     record {
-      found = found_err X c.from-residual-in-err-board.result (refusal_of refused.0) (left_as c.from-residual-in-err-board.result e c.from-residual-in-err-board.ensures.1 ∙ ap Err refused.2) answer;
+      found = found_err X c.from_residual-in_err-board.result (refusal_of refused.0) (left_as c.from_residual-in_err-board.result e c.from_residual-in_err-board.ensures.1 ∙ ap Err refused.2) answer;
       steps = store_kept X (λ x. x.entries.steps) steps (refusal_of refused.0) answer;
       owners = store_kept X (λ x. x.entries.owners) owners (refusal_of refused.0) answer;
       displays = store_kept X (λ x. map g.D.DisplayKind.cell x.entries.displays) displays (refusal_of refused.0) answer;
     }
 
-pub returns-in-err-fill : goal.returns-in-err-fill
-returns-in-err-fill g c =
-    let h = c.in-ok-heading.heading in
-    let W = rows_at g.D.DisplayKind.reads (counted h) c.args.sheet.now (plan_of (counted h)) 3 c.in-ok-heading.at in
-    let passed = rows_passed (3 + length (plan_of (counted h))) W c.in-ok-line.line c.in-ok-line.end c.in-ok-line.ensures in
-    let never : Err c.in-err-fill.field-0.0 ≡ Ok tt = c.in-err-fill.ensures.read ∙ ap (λ R. on R (λ z. Ok tt)) passed.1 in
+pub returns-in_err-fill : goal.returns-in_err-fill
+returns-in_err-fill g c =
+    let h = c.in_ok-heading.heading in
+    let W = rows_at g.D.DisplayKind.reads (counted h) c.args.sheet.now (plan_of (counted h)) 3 c.in_ok-heading.at in
+    let passed = rows_passed (3 + length (plan_of (counted h))) W c.in_ok-line.line c.in_ok-line.end c.in_ok-line.ensures in
+    let never : Err c.in_err-fill.field-0.0 ≡ Ok tt = c.in_err-fill.ensures.read ∙ ap (λ R. on R (λ z. Ok tt)) passed.1 in
     let z : ◌≡◌ {A = ℕ} 0 1 = cc in
     absurd (omega arith)
 
@@ -114,12 +114,12 @@ returns g c =
     let k = h.counts.consoles in
     let j = c.in_ok-line.end in
     let n = 3 + length (plan_of (counted h)) in
-    let b = c.in-ok-board.board in
+    let b = c.in_ok-board.board in
     let W = rows_at reads (counted h) s (plan_of (counted h)) 3 i in
     let X = read_answer kind reads (length steps) (length owners) (length displays) s in
     let room = suffices (length steps) (length owners) (length displays) c.if-steps-lt2400.false c.if-owners-lt24.false c.if-displays-lt1200.false in
     let passed = rows_passed n W c.in_ok-line.line j c.in_ok-line.ensures in
-    let listed = board_from h.counts b (flows_at k s (k * k) 0 c.in_ok-line.line j) c.in-ok-board.ensures in
+    let listed = board_from h.counts b (flows_at k s (k * k) 0 c.in_ok-line.line j) c.in_ok-board.ensures in
     let x : Sheet g.row.D.Denot = record { counted = counted h; entries = passed.0; flows = listed.0 } in
     let answer = answer_ok kind reads s (length steps) (length owners) (length displays) c.if-sheet-gt40960.false room x (all_read kind reads s (counted h) i c.in_ok-heading.ensures.read passed.0 j passed.1 listed.0 (ap (λ m. flows_at k s (k * k) 0 m j) (sym passed.2) ∙ listed.1)) in
     record {

@@ -4,10 +4,10 @@ use Rattle.sheet.proofs.Going.{left_as}
 use Rattle.sheet.proofs.Leads.{exacts_more, exacts_fail, exacts_end}
 use Rattle.sheet.proofs.rows.exacts.Goals as goal
 
-pub returns-in-err-next : goal.returns-in-err-next
-returns-in-err-next c =
-    left_as c.from-residual.result _ c.from-residual.ensures.1
-    ∙ sym (c.loop-number.invariant ∙ exacts_fail c.args.due.now c.args.sheet.now c.loop-number.number-index c.loop-number.place c.loop-number-test.true _ c.in-err-next.ensures)
+pub returns-in_err-next : goal.returns-in_err-next
+returns-in_err-next c =
+    left_as c.from_residual.result _ c.from_residual.ensures.1
+    ∙ sym (c.loop-number.invariant ∙ exacts_fail c.args.due.now c.args.sheet.now c.loop-number.number-index c.loop-number.place c.loop-number-test.true _ c.in_err-next.ensures)
 
 pub loop-number-preserved : goal.loop-number-preserved
 loop-number-preserved c =

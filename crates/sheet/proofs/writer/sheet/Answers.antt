@@ -14,12 +14,12 @@ returns g c =
     let v = g.C.Control.value c.args.control.now in
     let flows = flows_text v.consoles (flow_pairs v.consoles (may_affect c.args.permitted.now)) in
     wrote_as (ap (λ l. row_text kind mark v counts_title ++ (counts_text kind mark v ++ l)) (sym (blocks_text kind mark v owners_title steps_title displays_title flows_title (owner_rows v) (step_rows v) (display_rows v) flows)))
-    (wrote_more _ _ c.push-all-at.ensures
+    (wrote_more _ _ c.push_all-at.ensures
     (wrote_more _ _ c.counts-at.ensures
-    (wrote_more _ _ c.push-all-at-2.ensures
+    (wrote_more _ _ c.push_all-at-2.ensures
     (wrote_more _ _ c.owners-at.ensures
-    (wrote_more _ _ c.push-all-at-3.ensures
+    (wrote_more _ _ c.push_all-at-3.ensures
     (wrote_more _ _ c.steps-at.ensures
-    (wrote_more _ _ c.push-all-at-4.ensures
+    (wrote_more _ _ c.push_all-at-4.ensures
     (wrote_more _ _ c.displays-at.ensures
-    (wrote_more _ _ c.push-all-at-5.ensures c.flows.ensures)))))))))
+    (wrote_more _ _ c.push_all-at-5.ensures c.flows.ensures)))))))))

@@ -9,7 +9,7 @@ returns-then-needed-out g c =
     let laws = g.met.C.Display.DisplayKind in
     let board = c.args.board.now in
     let all = refused g.C.Display.DisplayKind.kind g.C.Display.DisplayKind.marked laws.named laws.mark_short
-    (g.C.Control.value c.args.control.now) (g.C.Control.lawful c.args.control.now) (consoles_of (flows_of board)) (commands_of (lockouts_of board)) c.in-ok-check-counts.ensures
+    (g.C.Control.value c.args.control.now) (g.C.Control.lawful c.args.control.now) (consoles_of (flows_of board)) (commands_of (lockouts_of board)) c.in_ok-check_counts.ensures
     c.flows-permitted.ensures c.sheet-needed.ensures c.args.out.now c.if-needed-out.true in
     record { answer = all.0; output = all.1 }
 
@@ -18,6 +18,6 @@ returns g c =
     let laws = g.met.C.Display.DisplayKind in
     let board = c.args.board.now in
     let all = written g.C.Display.DisplayKind.kind g.C.Display.DisplayKind.marked laws.named laws.mark_short
-    (g.C.Control.value c.args.control.now) (g.C.Control.lawful c.args.control.now) (consoles_of (flows_of board)) (commands_of (lockouts_of board)) c.in-ok-check-counts.ensures
+    (g.C.Control.value c.args.control.now) (g.C.Control.lawful c.args.control.now) (consoles_of (flows_of board)) (commands_of (lockouts_of board)) c.in_ok-check_counts.ensures
     c.flows-permitted.ensures c.sheet-needed.ensures c.args.out.now c.if-needed-out.false c.sheet.ensures in
     record { answer = all.0; output = all.1 }

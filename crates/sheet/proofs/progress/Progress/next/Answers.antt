@@ -9,17 +9,17 @@ use Rattle.sheet.proofs.Going.{left_with, numbered_ok, numbered_err, block_ok, b
 use Rattle.sheet.proofs.Steps.{faulted, stepped}
 use Rattle.sheet.proofs.progress.Progress.next.Goals as goal
 
-pub returns-in-err-entry : goal.returns-in-err-entry
-returns-in-err-entry g c =
+pub returns-in_err-entry : goal.returns-in_err-entry
+returns-in_err-entry g c =
     let p = c.args.self.now in
     let h = c.args.heading.now in
     let s = c.args.sheet.now in
     let d = c.in-Some.due in
-    let f = c.in-err-entry.field-0.0 in
+    let f = c.in_err-entry.field-0.0 in
     let V = value_at g.D.DisplayKind.reads (counted h) s (row_of h.counts d) p.at in
-    let was = numbered_err c.block.result c.row-on.result f.0 f.1 c.in-err-entry.ensures in
-    let fault : Err (record { row = f.0; block = f.1 }) ≡ on_line p.line f.1 V = block_err f.1 p.line (told c.row-on.result) V c.row-on.ensures.read f.0 (ap told was.0) in
-    left_with _ _ c.from-residual.result (record { row = f.0; block = f.1 }) c.from-residual.ensures.1
+    let was = numbered_err c.block.result c.row_on.result f.0 f.1 c.in_err-entry.ensures in
+    let fault : Err (record { row = f.0; block = f.1 }) ≡ on_line p.line f.1 V = block_err f.1 p.line (told c.row_on.result) V c.row_on.ensures.read f.0 (ap told was.0) in
+    left_with _ _ c.from_residual.result (record { row = f.0; block = f.1 }) c.from_residual.ensures.1
     (faulted g.D.DisplayKind.reads h s p d c.in-Some.is c.requires.1 _ (fault ∙ ap (λ b. on_line p.line b V) (was.1 ∙ c.block.ensures)))
 
 pub returns : goal.returns
