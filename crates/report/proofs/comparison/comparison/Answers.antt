@@ -15,11 +15,11 @@ returns g c =
     let F = may_affect (flows_of board) in
     let p = c.args.left.now in
     let q = c.args.right.now in
-    let alike = c.in-ok-alike.alike in
-    let says = alike_said (published_meaning m) (consoles_of (flows_of board)) (commands_of (lockouts_of board)) F v u p q alike (sym c.likeness.ensures ∙ c.in-ok-alike.was) in
+    let alike = c.in_ok-alike.alike in
+    let says = alike_said (published_meaning m) (consoles_of (flows_of board)) (commands_of (lockouts_of board)) F v u p q alike (sym c.likeness.ensures ∙ c.in_ok-alike.was) in
     record {
       text = whole_comparison g.C.Display.DisplayKind.marked v (locks (lockouts_of board)) (locks c.lockouts.result.now) (locks c.lockouts-2.result.now) m u F p q alike
           c.new-text.ensures.items says (ap locks c.lockouts.ensures) (ap locks c.lockouts-2.ensures)
-          c.in-ok-push-verdict.ensures c.in-ok-push-outcome.ensures c.in-ok-push-outcome-2.ensures;
+          c.in_ok-push_verdict.ensures c.in_ok-push_outcome.ensures c.in_ok-push_outcome-2.ensures;
       refusals = search rules;
     }

@@ -10,8 +10,8 @@ returns g c =
     let v = g.C.Control.value c.args.control.now in
     let s = c.walk-state.result in
     let x = vec_items c.args.text.now in
-    let first = c.in-ok-extend-from-slice.ensures.items ∙ ap (λ t. x ++ t) (c.as-bytes.ensures.value ∙ c.in-ok-before.ensures.ok) in
+    let first = c.in_ok-extend_from_slice.ensures.items ∙ ap (λ t. x ++ t) (c.as_bytes.ensures.value ∙ c.in_ok-before.ensures.ok) in
     let shown = c.text.ensures ∙ c.mark-mark.ensures ∙ ap marked c.display.ensures in
-    three_pieces x (state_after c.args.which.now s) c.text.result.now (codes ".\n") first c.in-ok-extend-from-slice-2.ensures.items c.in-ok-extend-from-slice-3.ensures.items
+    three_pieces x (state_after c.args.which.now s) c.text.result.now (codes ".\n") first c.in_ok-extend_from_slice-2.ensures.items c.in_ok-extend_from_slice-3.ensures.items
     ∙ ap (λ m. x ++ (state_after c.args.which.now s ++ (m ++ codes ".\n"))) shown
     ∙ ap (λ n. x ++ (state_after c.args.which.now n ++ (marked (display_of v n c.args.console) ++ codes ".\n"))) c.walk-state.ensures

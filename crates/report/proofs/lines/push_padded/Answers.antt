@@ -5,5 +5,5 @@ use Rattle.report.proofs.lines.push_padded.Goals as goal
 pub returns : goal.returns
 returns c =
     let before = vec_items c.args.text.now in
-    let blanks = c.in-ok-push-blanks.ensures ∙ ap (λ n. before ++ replicate n 32) c.saturating-sub.ensures in
-    then before _ c.args.word.now blanks c.in-ok-extend-from-slice.ensures.items
+    let blanks = c.in_ok-push_blanks.ensures ∙ ap (λ n. before ++ replicate n 32) c.saturating_sub.ensures in
+    then before _ c.args.word.now blanks c.in_ok-extend_from_slice.ensures.items

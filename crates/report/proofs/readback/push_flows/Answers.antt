@@ -6,7 +6,7 @@ use Rattle.report.proofs.Appending.{upto_more}
 use Rattle.report.proofs.readback.push_flows.Goals as goal
 
 pub loop-from-preserved : goal.loop-from-preserved
-loop-from-preserved c = upto_more (vec_items c.args.text.now) ((λ u. upto (flow_line (may_affect c.args.flows.now) u) (consoles_of c.args.flows.now))) c.loop-from.from c.loop-from.invariant c.in-ok-push-flows-from.ensures
+loop-from-preserved c = upto_more (vec_items c.args.text.now) ((λ u. upto (flow_line (may_affect c.args.flows.now) u) (consoles_of c.args.flows.now))) c.loop-from.from c.loop-from.invariant c.in_ok-push_flows_from.ensures
 
 pub returns : goal.returns
 returns c =

@@ -10,5 +10,5 @@ returns c =
     let x = vec_items c.args.text.now in
     let flows = c.args.flows.now in
     three_pieces x (givers_begun c.args.to) (upto (giver (may_affect flows) c.args.to) (consoles_of flows)) (codes "\n")
-    (c.in-ok-extend-from-slice.ensures.items ∙ ap (λ t. x ++ t) (c.as-bytes.ensures.value ∙ c.in-ok-begun.ensures.ok))
-    c.in-ok-push-givers.ensures c.in-ok-extend-from-slice-2.ensures.items
+    (c.in_ok-extend_from_slice.ensures.items ∙ ap (λ t. x ++ t) (c.as_bytes.ensures.value ∙ c.in_ok-begun.ensures.ok))
+    c.in_ok-push_givers.ensures c.in_ok-extend_from_slice-2.ensures.items

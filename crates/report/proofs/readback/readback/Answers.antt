@@ -10,5 +10,5 @@ returns c =
     let F = may_affect c.args.flows.now in
     let k = consoles_of c.args.flows.now in
     four_pieces (codes "Permitted flows:\n") (upto (λ u. upto (flow_line F u) k) k) (codes "Seen from each console:\n") (upto (givers_line F k) k)
-    (c.in-ok-extend-from-slice.ensures.items ∙ ap (λ t. t ++ codes "Permitted flows:\n") c.new-text.ensures.items)
-    c.in-ok-push-flows.ensures c.in-ok-extend-from-slice-2.ensures.items c.in-ok-push-givers-lines.ensures
+    (c.in_ok-extend_from_slice.ensures.items ∙ ap (λ t. t ++ codes "Permitted flows:\n") c.new-text.ensures.items)
+    c.in_ok-push_flows.ensures c.in_ok-extend_from_slice-2.ensures.items c.in_ok-push_givers_lines.ensures

@@ -3,5 +3,5 @@ use Rattle.report.proofs.transcript.push_closing.Goals as goal
 
 pub returns : goal.returns
 returns c =
-    c.in-ok-extend-from-slice.ensures.items
-    ∙ ap (λ word. vec_items c.args.text.now ++ word) (c.as-bytes.ensures.value ∙ c.in-ok-closing.ensures.ok)
+    c.in_ok-extend_from_slice.ensures.items
+    ∙ ap (λ word. vec_items c.args.text.now ++ word) (c.as_bytes.ensures.value ∙ c.in_ok-closing.ensures.ok)

@@ -10,4 +10,4 @@ loop-console-preserved g c =
     let marked = g.C.Display.DisplayKind.marked in
     let mark = c.text.ensures ∙ c.mark-mark.ensures ∙ ap marked c.display.ensures in
     upto_more (vec_items c.args.text.now) (λ u. padded console_width (marked (display_of (g.C.Control.value c.args.control.now) c.args.state u))) c.loop-console.console c.loop-console.invariant
-    (c.in-ok-push-padded.ensures ∙ ap (λ word. vec_items c.loop-console.text ++ padded console_width word) mark)
+    (c.in_ok-push_padded.ensures ∙ ap (λ word. vec_items c.loop-console.text ++ padded console_width word) mark)

@@ -5,5 +5,5 @@ use Rattle.report.proofs.transcript.push_heading.Goals as goal
 pub returns : goal.returns
 returns c =
     six_pieces (vec_items c.args.text.now) _ _ _ _ _ _
-    c.in-ok-push-padded.ensures c.in-ok-push-padded-2.ensures c.in-ok-push-padded-3.ensures c.in-ok-push-padded-4.ensures
-    c.in-ok-push-console-names.ensures c.in-ok-push.ensures.items
+    c.in_ok-push_padded.ensures c.in_ok-push_padded-2.ensures c.in_ok-push_padded-3.ensures c.in_ok-push_padded-4.ensures
+    c.in_ok-push_console_names.ensures c.in_ok-push.ensures.items

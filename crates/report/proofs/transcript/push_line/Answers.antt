@@ -5,5 +5,5 @@ use Rattle.report.proofs.transcript.push_line.Goals as goal
 pub returns : goal.returns
 returns g c =
     six_pieces (vec_items c.args.text.now) _ _ _ _ _ _
-    c.in-ok-push-padded.ensures c.in-ok-push-padded-2.ensures c.in-ok-push-padded-3.ensures
-    c.in-ok-push-number.ensures c.in-ok-push-displays.ensures c.in-ok-push.ensures.items
+    c.in_ok-push_padded.ensures c.in_ok-push_padded-2.ensures c.in_ok-push_padded-3.ensures
+    c.in_ok-push_number.ensures c.in_ok-push_displays.ensures c.in_ok-push.ensures.items

@@ -8,6 +8,6 @@ pub returns : goal.returns
 returns g c = record {
   text = whole_text g.C.Display.DisplayKind.marked (g.C.Control.value c.args.control.now) (locks (lockouts_of c.args.board.now)) (locks c.lockouts.result.now) c.args.sequence.now
       c.consoles.result c.start.result c.new-text.ensures.items c.consoles.ensures.value c.start.ensures.value (ap locks c.lockouts.ensures)
-      c.in-ok-push-heading.ensures c.in-ok-push-line.ensures c.in-ok-push-commands.ensures;
+      c.in_ok-push_heading.ensures c.in_ok-push_line.ensures c.in_ok-push_commands.ensures;
   refusals = search rules;
 }
