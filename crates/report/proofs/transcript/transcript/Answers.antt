@@ -7,7 +7,7 @@ use Rattle.report.proofs.transcript.transcript.Goals as goal
 pub returns : goal.returns
 returns g c = record {
   text = whole_text g.C.Display.DisplayKind.marked (g.C.Control.value c.args.control.now) (locks (lockouts_of c.args.board.now)) (locks c.lockouts.result.now) c.args.sequence.now
-      c.consoles.result c.start.result c.new-text.ensures.items c.consoles.ensures.value c.start.ensures.value (ap locks c.lockouts.ensures)
+      c.consoles.result _ c.new-text.ensures.items c.consoles.ensures.value (search rules) (ap locks c.lockouts.ensures)
       c.in_ok-push_heading.ensures c.in_ok-push_line.ensures c.in_ok-push_commands.ensures;
   refusals = search rules;
 }
