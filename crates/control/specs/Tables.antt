@@ -1,5 +1,5 @@
 -- What a table over a lent store is as a control.
-use Rattle.std.specs.Prelude.{ℕ, ◌+◌, ◌*◌, Bool, ◌&&◌, List, map, length, nat_le, slice_index, slice_index_or}
+use Rattle.std.specs.Prelude.{ℕ, ◌+◌, ◌*◌, Bool, ◌&&◌, List, map, nat_le, slice_index, slice_index_or}
 use Rattle.std.proofs.Common.{arith}
 use Rattle.theory.specs.Limits.{most_states, most_commands, most_consoles, count_read, number_read}
 use Rattle.theory.specs.Control.{ControlValue, Lawful}

@@ -1,5 +1,5 @@
 -- Readings: their name, sameness, marks and store entries.
-use Rattle.std.specs.Prelude.{◌≡◌, ℕ, Bool, true, false, cond, List, [], ◌∷◌, drop, ℤ, pos, negsuc, neg_ℤ, Some, None, Ok, Err, codes, Option, Result, ◌==◌, refl}
+use Rattle.std.specs.Prelude.{◌≡◌, ℕ, Bool, true, false, cond, List, drop, ℤ, pos, negsuc, neg_ℤ, Some, None, Ok, Err, codes, Option, Result, ◌==◌, refl}
 use Rattle.std.specs.Fmt.{signed_decimal}
 use Rattle.mark.specs.Runs.{number_in, same_bytes}
 use Rattle.mark.specs.Tokens.{Sort, name, number, negative, no_mark, sort_of}
@@ -8,7 +8,6 @@ use Rattle.mark.specs.declared.cause.Cause.TheVariants.{NoMark, NotDue, OutOfRan
 use Rattle.display.specs.Ranges.{in_range}
 use Rattle.display.specs.declared.reading.Reading.{Reading}
 use Rattle.display.specs.declared.reading.Reading.TheVariants as reading
-use Rattle.display.specs.declared.reading.Tenths.{Tenths}
 
 abbrev pub reading_kind : List ℕ
 reading_kind = codes "reading"

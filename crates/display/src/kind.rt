@@ -32,7 +32,7 @@ pub trait DisplayKind: Copy {
     // what an entry that a store lacks is read as
     ghost zero: { Self };
 
-    // Lent for as long as the caller likes: beside laws, a method's `'static` is not proved yet.
+    // Lent for as long as the caller likes: a `'static` result beside laws had no proof when this was written.
     fn kind_name<'a>() -> &'a [u8]
         ensures { result.now ≡ kind };
 

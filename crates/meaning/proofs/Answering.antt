@@ -20,7 +20,7 @@ owner_below v lawful c = lawful.owned _ (number_read_below v.commands c lawful.c
 
 -- k consoles, n commands, and a list of consoles that is the control's for each of them
 module _ {D : Type 0} (m : MeaningValue) (laws : MeaningLaws m) (k n : ℕ) (F : Flow) (selves : SelfFlows k F) (v : ControlValue D) (lawful : Lawful v) (consoles : v.consoles ≡ k) (commands : v.commands ≡ n)
-    (owners : List ℕ) (All-there : length owners ≡ n) (same : (c : ℕ) → c < n → owner_in owners c ≡ owner_of v c) (u : ℕ) (there : u < k) (p q : List ℕ)
+    (owners : List ℕ) (all_there : length owners ≡ n) (same : (c : ℕ) → c < n → owner_in owners c ≡ owner_of v c) (u : ℕ) (there : u < k) (p q : List ℕ)
     (p_short : length p ≤ most_compared) (q_short : length q ≤ most_compared) (p_below : all_below n p ≡ true) (q_below : all_below n q ≡ true) where
   owned : (c : ℕ) → owner_of v c < k
   owned c = subst (λ i. owner_of v c < i) consoles (owner_below v lawful c)
@@ -29,7 +29,7 @@ module _ {D : Type 0} (m : MeaningValue) (laws : MeaningLaws m) (k n : ℕ) (F :
   listed c h = subst (λ w. w < k) (sym (same c h)) (owned c)
 
   can_compare : (r : List ℕ) → length r ≤ most_compared → all_below n r ≡ true → comparable (length owners) r ≡ true
-  can_compare r short below = and_from (leb (length r) most_compared) (all_below (length owners) r) (le-leb _ _ short) (ap (λ i. all_below i r) All-there ∙ below)
+  can_compare r short below = and_from (leb (length r) most_compared) (all_below (length owners) r) (le-leb _ _ short) (ap (λ i. all_below i r) all_there ∙ below)
 
   asked : alike_asked m k F owners u p q ≡ m.alike F (owner_in owners) u p q
   asked =

@@ -1,5 +1,5 @@
 -- What a row of sets for each console says: whether one console may affect another.
-use Rattle.std.specs.Prelude.{ℕ, List, slice_index_or}
+use Rattle.std.specs.Prelude.{List, slice_index_or}
 use Rattle.theory.specs.Flows.{Flow}
 use Rattle.policy.specs.Members.{holds}
 use Rattle.policy.specs.declared.members.Members.{Members}

@@ -22,16 +22,16 @@ pub tabulate_due : {A : Type 0} (due : A → Type 0) (a n : ℕ) (f : ℕ → A)
 tabulate_due due a zero f h = tt
 tabulate_due due a (suc n) f h = (h a (omega arith), tabulate_due due (a + 1) n f (λ r l. h r (omega arith)))
 
-get_d_tabulate : {A : Type 0} (a n : ℕ) (f : ℕ → A) (i : ℕ) (d : A) → i < n → get_or (tabulate a n f) i d ≡ f (a + i)
-get_d_tabulate a zero f i d h = absurd (omega arith)
-get_d_tabulate a (suc n) f zero d h = ap f (omega arith)
-get_d_tabulate a (suc n) f (suc i) d h = get_d_tabulate (a + 1) n f i d (omega arith) ∙ ap f (omega arith)
+get_or-tabulate : {A : Type 0} (a n : ℕ) (f : ℕ → A) (i : ℕ) (d : A) → i < n → get_or (tabulate a n f) i d ≡ f (a + i)
+get_or-tabulate a zero f i d h = absurd (omega arith)
+get_or-tabulate a (suc n) f zero d h = ap f (omega arith)
+get_or-tabulate a (suc n) f (suc i) d h = get_or-tabulate (a + 1) n f i d (omega arith) ∙ ap f (omega arith)
 
 -- a list is the table of its entries
 entries_tabulated : {A : Type 0} (xs : List A) (n : ℕ) (f : ℕ → A) (d : A) → length xs ≡ n → ((r : ℕ) → r < n → f r ≡ get_or xs r d) → tabulate 0 n f ≡ xs
 entries_tabulated xs n f d l h =
     ext_get_or d (tabulate 0 n f) xs (length_tabulate 0 n f ∙ sym l)
-    (λ i k. let small : i < n = omega (arith, length_tabulate 0 n f) in get_d_tabulate 0 n f i d small ∙ ap f (omega arith) ∙ h i small)
+    (λ i k. let small : i < n = omega (arith, length_tabulate 0 n f) in get_or-tabulate 0 n f i d small ∙ ap f (omega arith) ∙ h i small)
 
 due_there : {A : Type 0} (due : A → Type 0) (xs : List A) (i : ℕ) (d : A) → AllDue due xs → i < length xs → due (get_or xs i d)
 due_there due [] i d all h = absurd (omega arith)
@@ -63,8 +63,8 @@ module _ {D : Type 0} (kind : List ℕ) (mark : D → List ℕ) (v : ControlValu
       let displays_lines = block_text (λ r. shown (r / k) (r % k)) (shown_line mark k) (λ r. v.shows (r / k) (r % k)) (λ r. refl) (flows_title ∷ []) more 0 (n * k) ∙ ap (λ l. lines_from (shown_line mark k) 0 (tabulate 0 (n * k) (λ r. v.shows (r / k) (r % k))) ++ l) flows_lines in
       let displays_all = title_text 4 (names_of displays_title) (displays_on c) more ∙ ap (λ l. line_of (names_of displays_title) ++ l) displays_lines in
       let steps_lines = block_text (λ r. step (r / m) (r % m)) (step_line m) (λ r. v.step (r / m) (r % m)) (λ r. refl) (displays_title ∷ displays_on c) more 0 (n * m) ∙ ap (λ l. lines_from (step_line m) 0 (tabulate 0 (n * m) (λ r. v.step (r / m) (r % m))) ++ l) displays_all in
-      let Steps-all = title_text 3 (names_of steps_title) (steps_on c) more ∙ ap (λ l. line_of (names_of steps_title) ++ l) steps_lines in
-      let owners_lines = block_text owner owner_line v.owner (λ r. refl) (steps_title ∷ steps_on c) more 0 m ∙ ap (λ l. lines_from owner_line 0 (tabulate 0 m v.owner) ++ l) Steps-all in
+      let steps_all = title_text 3 (names_of steps_title) (steps_on c) more ∙ ap (λ l. line_of (names_of steps_title) ++ l) steps_lines in
+      let owners_lines = block_text owner owner_line v.owner (λ r. refl) (steps_title ∷ steps_on c) more 0 m ∙ ap (λ l. lines_from owner_line 0 (tabulate 0 m v.owner) ++ l) steps_all in
       let owners_all = title_text 2 (names_of owners_title) (owners_on c) more ∙ ap (λ l. line_of (names_of owners_title) ++ l) owners_lines in
       ap (λ l. line_of (names_of counts_title) ++ (counts_text kind mark v ++ l)) owners_all
 

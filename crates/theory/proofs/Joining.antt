@@ -1,5 +1,5 @@
 -- Runs one after the other, and runs without the locked commands.
-use Rattle.std.proofs.Common.{◌≡◌, ℕ, Bool, true, false, cond, List, [], ◌∷◌, refl, ap, ◌∙◌}
+use Rattle.std.proofs.Common.{◌≡◌, Bool, true, false, cond, [], ◌∷◌, refl, ◌∙◌}
 use Rattle.theory.specs.Flows.{no_lockout}
 use Rattle.theory.specs.Runs.{leads}
 use Rattle.theory.specs.Theorems.{RunsJoin, unlocked, LockedCommandsMoveNothing}

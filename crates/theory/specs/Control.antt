@@ -1,5 +1,5 @@
 -- What a control is: a receiver whose consoles give commands and see displays.
-use Rattle.std.specs.Prelude.{◌≡◌, ℕ, ◌+◌, ◌-◌, ◌*◌, ◌/◌, ◌%◌, ◌<◌, Bool, cond, ◌&&◌, nat_le, nat_lt}
+use Rattle.std.specs.Prelude.{ℕ, ◌+◌, ◌-◌, ◌*◌, ◌/◌, ◌%◌, ◌<◌, Bool, cond, ◌&&◌, nat_le, nat_lt}
 use Rattle.theory.specs.Limits.{Count, most_states, most_commands, most_consoles, number_read}
 
 -- States, commands and consoles are numbered from 0. `owner` gives the console of a command,

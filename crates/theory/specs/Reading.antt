@@ -1,5 +1,5 @@
 -- What is read of a count or a number is in range.
-use Rattle.std.specs.Prelude.{◌≡◌, ℕ, ◌<◌, ◌≤◌, Bool, true, false, cond, ◌&&◌, nat_le, nat_lt, refl}
+use Rattle.std.specs.Prelude.{◌≡◌, ℕ, ◌<◌, ◌≤◌, nat_le, nat_lt}
 use Rattle.std.proofs.Common.{arith, ltb-true}
 use Rattle.theory.specs.Limits.{Count, counts, count_read, number_read}
 use Rattle.std.proofs.lemmas.Bool.{leb-true, lt-ltb, and_parts, cond_both, cond-true}

@@ -1,4 +1,4 @@
-use Rattle.std.proofs.Common.{◌≡◌, ◌≤◌, length, drop}
+use Rattle.std.proofs.Common.{◌≡◌, drop}
 use Rattle.theory.specs.Control.{next_of}
 use Rattle.theory.specs.Runs.{leads}
 use Rattle.policy.specs.Lockouts.{locks}

@@ -1,4 +1,4 @@
-use Rattle.std.proofs.Common.{◌≡◌, ◌*◌, sym, ap, ◌∙◌, subst, ap₂}
+use Rattle.std.proofs.Common.{◌*◌, sym, ap, ◌∙◌, subst, ap₂}
 use Rattle.theory.specs.Limits.{Count, most_states}
 use Rattle.control.specs.Pairs.{side_by_side_lawful}
 use Rattle.control.proofs.Beside.{beside}
