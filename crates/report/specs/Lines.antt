@@ -1,5 +1,5 @@
 -- Columns of text, and texts of the numbers below n one after the other.
-use Rattle.std.specs.Prelude.{ℕ, zero, suc, ◌-◌, List, [], ◌∷◌, ◌++◌, length, replicate}
+use Rattle.std.specs.Prelude.{ℕ, zero, suc, ◌-◌, List, [], ◌++◌, length, replicate}
 
 -- blanks before the word, so that it ends at the width; a longer word is not cut
 abbrev pub padded : ℕ → List ℕ → List ℕ

@@ -1,5 +1,5 @@
 -- A refusal in words, and as a line of its four values.
-use Rattle.std.specs.Prelude.{ℕ, List, [], ◌∷◌, ◌++◌, codes, decimal}
+use Rattle.std.specs.Prelude.{ℕ, List, ◌++◌, codes, decimal}
 use Rattle.policy.specs.Refusals.{told_of}
 use Rattle.policy.specs.declared.refusal.Refusal.{Refusal}
 use Rattle.policy.specs.declared.refusal.Refusal.TheVariants.{SheetTooLong, TableStoreTooSmall, Fault, NoSuchConsole, NoSuchCommand, SelfFlow, CountsDiffer, DoesNotFit, SequenceTooLong, BoardLimits, OutputTooShort}

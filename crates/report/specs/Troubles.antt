@@ -1,5 +1,5 @@
 -- A text is made, or refused just as the call that it speaks of, or there is no memory for it.
-use Rattle.std.specs.Prelude.{◌≡◌, ℕ, true, is_ok, Ok, Err, Result}
+use Rattle.std.specs.Prelude.{◌≡◌, true, is_ok, Ok, Err, Result}
 use Rattle.policy.specs.declared.refusal.Refusal.{Refusal}
 use Rattle.report.specs.declared.trouble.Trouble.{Trouble}
 use Rattle.report.specs.declared.trouble.Trouble.TheVariants.{Refused, Memory}

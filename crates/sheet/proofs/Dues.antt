@@ -1,11 +1,10 @@
 -- The rows that are still due begin with the row due and go on with those of the next.
-use Rattle.std.proofs.Common.{◌≡◌, ℕ, zero, suc, ◌+◌, ◌-◌, ◌*◌, ◌/◌, ◌%◌, ◌<◌, ◌≤◌, Bool, true, false, cond, ltb, List, [], ◌∷◌, ◌++◌, length, Some, None, Option, sym, refl, ap, ◌∙◌, arith, length-append}
+use Rattle.std.proofs.Common.{◌≡◌, ℕ, zero, suc, ◌+◌, ◌-◌, ◌*◌, ◌/◌, ◌%◌, ◌<◌, ◌≤◌, Bool, true, false, cond, ltb, List, [], ◌∷◌, ◌++◌, length, Some, Option, sym, refl, ap, ◌∙◌, arith, length-append}
 use Rattle.std.proofs.lemmas.Nat.{mul-le}
 use Rattle.std.proofs.lemmas.Bool.{ltb-true, ltb-false}
 use Rattle.control.specs.declared.table.Counts.{Counts}
 use Rattle.sheet.specs.Plan.{tabulate, Row, owner, step, shown, block_of, plan, owners_title, steps_title, displays_title, flows_title}
-use Rattle.sheet.specs.Due.{Within, title_of, row_of, number_of, rows_due, rows_left, next_due, Stands, StandsLeft, displays_from, steps_from, owners_from}
-use Rattle.sheet.specs.declared.due.Block.{Block}
+use Rattle.sheet.specs.Due.{Within, row_of, number_of, rows_due, rows_left, next_due, Stands, StandsLeft}
 use Rattle.sheet.specs.declared.due.Block.TheVariants as block
 use Rattle.sheet.specs.declared.due.Due.{Due}
 use Rattle.sheet.specs.declared.due.Due.TheVariants as due

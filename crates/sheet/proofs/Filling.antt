@@ -1,5 +1,5 @@
 -- The stores are filled from their front, entry by entry, as the rows say.
-use Rattle.std.proofs.Common.{◌≡◌, ℕ, suc, ◌+◌, ◌*◌, ◌<◌, ◌≤◌, Bool, true, false, cond, ltb, leb, List, [], ◌∷◌, ◌++◌, map, length, take, drop, set, Some, None, Ok, Err, Option, Result, sym, refl, ap, ◌∙◌, subst, add-one, arith}
+use Rattle.std.proofs.Common.{◌≡◌, ℕ, suc, ◌+◌, ◌*◌, ◌<◌, Bool, true, false, cond, ltb, leb, List, [], ◌∷◌, ◌++◌, map, length, drop, set, Some, None, Ok, Err, Option, Result, sym, refl, ap, ◌∙◌, add-one, arith}
 use Rattle.std.proofs.lemmas.Nat.{mul-le}
 use Rattle.std.proofs.lemmas.List.{append_assoc, append-nil, drop_at, drop-drop, length-append, length-drop, length-map, length_push, map-append, set_split, take_at}
 use Rattle.std.proofs.lemmas.Bool.{and_parts, leb-true, ltb-false}
@@ -12,7 +12,7 @@ use Rattle.sheet.specs.Reading.{Entries, Value, nothing, owned, stepped, showed,
 use Rattle.sheet.specs.Due.{Within, Stands, next_due}
 use Rattle.sheet.specs.Entries.{value_of, Kinded}
 use Rattle.sheet.specs.Passes.{Ready, Stepped, Faulted, left_at, started}
-use Rattle.sheet.specs.Stores.{Holds, steps_with, owners_with, displays_with, steps_done, owners_done, displays_done, joined, FilledBy}
+use Rattle.sheet.specs.Stores.{Holds, steps_with, owners_with, displays_with, steps_done, owners_done, displays_done, joined}
 use Rattle.sheet.specs.declared.due.Block.{Block}
 use Rattle.sheet.specs.declared.due.Block.TheVariants as block
 use Rattle.sheet.specs.declared.due.Due.{Due}

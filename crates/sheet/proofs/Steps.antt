@@ -1,16 +1,12 @@
 -- One row of a pass: what is left says it, and then what is left behind it.
-use Rattle.std.proofs.Common.{◌≡◌, ℕ, suc, ◌+◌, ◌≤◌, List, [], ◌∷◌, length, Some, None, Ok, Err, Option, Result, sym, refl, ap, ◌∙◌, subst, arith}
+use Rattle.std.proofs.Common.{◌≡◌, ℕ, suc, ◌+◌, List, ◌∷◌, length, Some, Ok, Err, Result, sym, ap, ◌∙◌, subst, arith}
 use Rattle.mark.specs.declared.cause.Cause.{Cause}
 use Rattle.sheet.specs.Faults.{on, on_line}
-use Rattle.sheet.specs.Numbered.{numbered_by, lined}
-use Rattle.sheet.specs.Plan.{block_of}
-use Rattle.sheet.specs.Reading.{Value, with_value, value_at, rows_at}
+use Rattle.sheet.specs.Reading.{with_value, value_at, rows_at}
 use Rattle.sheet.specs.Due.{Within, Stands, StandsLeft, row_of, number_of, rows_left, next_due}
-use Rattle.sheet.specs.Entries.{counted, value_of, told, Kinded}
+use Rattle.sheet.specs.Entries.{counted, value_of, Kinded}
 use Rattle.sheet.specs.Passes.{Ready, Stepped, Faulted, left_at, line_behind}
 use Rattle.sheet.specs.declared.due.Due.{Due}
-use Rattle.sheet.specs.declared.fault.MarkFault.{MarkFault}
-use Rattle.sheet.specs.declared.fault.RowFault.{RowFault}
 use Rattle.sheet.specs.declared.fault.SheetFault.{SheetFault}
 use Rattle.sheet.specs.declared.progress.Progress.{Progress}
 use Rattle.sheet.specs.declared.rows.Heading.{Heading}

@@ -1,5 +1,5 @@
 -- What the reader and the writer answer, and what the stores hold afterwards.
-use Rattle.std.specs.Prelude.{◌≡◌, ℕ, ◌<◌, Bool, false, cond, List, ◌++◌, map, length, drop, Ok, Err, Result, nat_le, nat_lt}
+use Rattle.std.specs.Prelude.{◌≡◌, ℕ, false, cond, List, ◌++◌, length, drop, Ok, Err, Result, nat_le, nat_lt}
 use Rattle.mark.specs.declared.cause.Cause.{Cause}
 use Rattle.policy.specs.Board.{flows_of, lockouts_of}
 use Rattle.policy.specs.Flows.{consoles_of, may_affect}

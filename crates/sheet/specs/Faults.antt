@@ -2,7 +2,6 @@
 use Rattle.std.specs.Prelude.{ℕ, Ok, Err, Result}
 use Rattle.mark.specs.declared.cause.Cause.{Cause}
 use Rattle.sheet.specs.declared.fault.MarkFault.{MarkFault}
-use Rattle.sheet.specs.declared.fault.RowFault.{RowFault}
 use Rattle.sheet.specs.declared.fault.SheetFault.{SheetFault}
 
 -- a cause at a byte offset

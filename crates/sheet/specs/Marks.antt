@@ -1,5 +1,5 @@
 -- Reading one mark and the byte behind it, at a place of a sheet.
-use Rattle.std.specs.Prelude.{ℕ, ◌+◌, Bool, cond, ◌||◌, List, [], ◌∷◌, length, drop, Some, None, Ok, Err, Option, Result, ◌==◌, nat_le, slice_index}
+use Rattle.std.specs.Prelude.{ℕ, ◌+◌, cond, ◌||◌, List, [], ◌∷◌, length, drop, Some, None, Ok, Err, Option, Result, ◌==◌, nat_le, slice_index}
 use Rattle.mark.specs.Runs.{number_in, same_bytes}
 use Rattle.mark.specs.Tokens.{Sort, name, number, negative, no_mark, sort_of}
 use Rattle.mark.specs.declared.cause.Cause.{Cause}

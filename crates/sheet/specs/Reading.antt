@@ -1,5 +1,5 @@
 -- Reading a sheet: what its bytes say, or the earliest fault with its line and block.
-use Rattle.std.specs.Prelude.{ℕ, zero, suc, ◌+◌, ◌-◌, ◌*◌, ◌/◌, ◌%◌, Bool, cond, not, ◌&&◌, List, [], ◌∷◌, ◌++◌, length, Ok, Err, Result, ◌==◌, nat_le}
+use Rattle.std.specs.Prelude.{ℕ, zero, suc, ◌+◌, ◌-◌, ◌*◌, ◌/◌, ◌%◌, Bool, cond, not, ◌&&◌, List, [], ◌∷◌, length, Ok, Err, Result, ◌==◌, nat_le}
 use Rattle.mark.specs.declared.cause.Cause.{Cause}
 use Rattle.mark.specs.declared.cause.Cause.TheVariants.{NotDue}
 use Rattle.theory.specs.Limits.{most_states, most_commands, most_consoles}

@@ -1,5 +1,5 @@
 -- The stores while they are filled: where a row's entry belongs, and what was written so far.
-use Rattle.std.specs.Prelude.{◌≡◌, ℕ, ◌*◌, ◌<◌, List, [], ◌∷◌, ◌++◌, Some, None, Ok, Err, Option, Result, slice_set}
+use Rattle.std.specs.Prelude.{◌≡◌, ℕ, ◌*◌, ◌<◌, List, ◌++◌, Some, None, Ok, Err, Option, Result, slice_set}
 use Rattle.control.specs.declared.table.Counts.{Counts}
 use Rattle.sheet.specs.Calls.{overwritten}
 use Rattle.sheet.specs.Reading.{Entries}

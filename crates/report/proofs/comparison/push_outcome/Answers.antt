@@ -1,4 +1,4 @@
-use Rattle.std.proofs.Common.{◌++◌, vec_items, codes, sym, ap, ◌∙◌, ap₂}
+use Rattle.std.proofs.Common.{◌++◌, vec_items, codes, ap, ◌∙◌}
 use Rattle.theory.specs.Control.{display_of}
 use Rattle.report.specs.Comparisons.{state_after}
 use Rattle.report.proofs.Appending.{three_pieces}

@@ -1,4 +1,4 @@
-use Rattle.std.proofs.Common.{◌-◌, ◌++◌, length, replicate, vec_items, ap, ◌∙◌}
+use Rattle.std.proofs.Common.{◌++◌, replicate, vec_items, ap, ◌∙◌}
 use Rattle.report.proofs.Appending.{then}
 use Rattle.report.proofs.lines.push_padded.Goals as goal
 

@@ -1,4 +1,4 @@
-use Rattle.std.proofs.Common.{cond, [], ◌++◌, vec_items, sym, ap, ◌∙◌}
+use Rattle.std.proofs.Common.{[], ◌++◌, vec_items, sym, ap, ◌∙◌}
 use Rattle.std.proofs.lemmas.Bool.{ne_eqb, not_from_false, and_from, cond-true}
 use Rattle.report.proofs.readback.push_flow.Goals as goal
 

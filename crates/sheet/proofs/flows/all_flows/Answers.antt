@@ -1,5 +1,5 @@
 -- Each flow that is read is allowed, since its consoles are consoles of the board.
-use Rattle.std.proofs.Common.{◌≡◌, ℕ, ◌*◌, ◌/◌, ◌%◌, ◌<◌, is_ok, Ok, Err, sym, refl, ap, ◌∙◌, arith}
+use Rattle.std.proofs.Common.{◌≡◌, ℕ, ◌*◌, ◌/◌, ◌%◌, ◌<◌, is_ok, Ok, Err, refl, ap, ◌∙◌, arith}
 use Rattle.std.proofs.lemmas.Bool.{cond-true}
 use Rattle.policy.specs.Flows.{allow_answer}
 use Rattle.sheet.specs.Calls.{refusal_of}

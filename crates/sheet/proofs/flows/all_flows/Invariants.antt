@@ -1,4 +1,4 @@
-use Rattle.std.proofs.Common.{◌≡◌, ◌-◌, ◌*◌}
+use Rattle.std.proofs.Common.{◌-◌, ◌*◌}
 use Rattle.sheet.proofs.Listing.{Listing}
 use Rattle.sheet.proofs.flows.all_flows.Given as goal
 

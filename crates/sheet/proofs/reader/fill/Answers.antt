@@ -1,10 +1,10 @@
 -- Each row that is read is kept at its place.
-use Rattle.std.proofs.Common.{◌≡◌, length, sym, refl, ap, ◌∙◌, subst}
+use Rattle.std.proofs.Common.{length, sym, refl, subst}
 use Rattle.std.proofs.lemmas.Option.{MatchOption-at_some}
 use Rattle.sheet.specs.Reading.{plan_of, rows_at}
-use Rattle.sheet.specs.Due.{Stands, StandsLeft}
+use Rattle.sheet.specs.Due.{StandsLeft}
 use Rattle.sheet.specs.Entries.{counted}
-use Rattle.sheet.specs.Passes.{Ready, Stepped, Ended, started}
+use Rattle.sheet.specs.Passes.{Stepped, Ended}
 use Rattle.sheet.proofs.Passed.{pass_ready, pass_whole}
 use Rattle.sheet.proofs.Filling.{Filling, filling_start, filling_more, room_for}
 use Rattle.sheet.proofs.reader.fill.Goals as goal

@@ -1,11 +1,10 @@
 -- The two lines, with the number of the first block.
-use Rattle.std.proofs.Common.{◌≡◌, Ok, Err, ap, ◌∙◌}
+use Rattle.std.proofs.Common.{Err, ap, ◌∙◌}
 use Rattle.std.proofs.lemmas.Result.{IfOk-at_ok, IfOk-from_err}
 use Rattle.sheet.specs.Plan.{counts_title}
 use Rattle.sheet.specs.Reading.{names_at, counts_at}
 use Rattle.sheet.specs.Due.{Within, names_in}
 use Rattle.sheet.specs.Entries.{headed}
-use Rattle.sheet.specs.declared.fault.SheetFault.{SheetFault}
 use Rattle.sheet.proofs.Going.{left_as, numbered_ok, numbered_err, two_ok, two_err}
 use Rattle.sheet.proofs.reader.first_block.Goals as goal
 

@@ -1,5 +1,5 @@
 -- Every row reaches as far as the rows behind it.
-use Rattle.std.proofs.Common.{◌≡◌, ℕ, ◌+◌, length, None, Ok, sym, ap, ◌∙◌, subst}
+use Rattle.std.proofs.Common.{ℕ, ◌+◌, length, Ok, sym, ap, ◌∙◌, subst}
 use Rattle.std.proofs.lemmas.Option.{MatchOption-at_some, MatchOption-at_none}
 use Rattle.sheet.specs.Faults.{on}
 use Rattle.sheet.specs.Reading.{plan_of, rows_at}

@@ -1,5 +1,5 @@
 -- The row that was due is read on its line and in its block, and then the next is due.
-use Rattle.std.proofs.Common.{◌≡◌, ◌+◌, Ok, Err, sym, refl, ap, ◌∙◌}
+use Rattle.std.proofs.Common.{◌≡◌, Ok, Err, refl, ap, ◌∙◌}
 use Rattle.std.proofs.lemmas.Result.{IfOk-at_ok}
 use Rattle.sheet.specs.Faults.{on_line}
 use Rattle.sheet.specs.Reading.{value_at}
