@@ -1,5 +1,5 @@
 -- What holds of every run, in the subject's own words.
-use Rattle.std.specs.Prelude.{◌≡◌, ℕ, ◌+◌, ◌-◌, ◌*◌, ◌<◌, true, cond, ltb, List, [], ◌∷◌, ◌++◌, nat_lt}
+use Rattle.std.specs.Prelude.{◌≡◌, ℕ, ◌+◌, ◌-◌, ◌*◌, ◌<◌, true, cond, List, [], ◌∷◌, ◌++◌, nat_lt}
 use Rattle.theory.specs.Flows.{Lockout, no_lockout}
 use Rattle.theory.specs.Control.{ControlValue, Lawful, next_of, product}
 use Rattle.theory.specs.Runs.{every, leads}
@@ -29,6 +29,6 @@ right_commands m (c ∷ p) = cond (nat_lt c m) (right_commands m p) ((c - m) ∷
 -- Two controls side by side run apart: each side goes where its own commands lead it, whatever
 -- the other side is given.
 abbrev pub SidesRunApart : Type 0 → Type 0
-SidesRunApart D = (a b : ControlValue D) (L : Lockout) → Lawful a → Lawful b → (s t : ℕ) → s < a.states → t < b.states → (p : List ℕ) → every (λ c. ltb c (a.commands + b.commands)) p ≡ true
+SidesRunApart D = (a b : ControlValue D) (L : Lockout) → Lawful a → Lawful b → (s t : ℕ) → s < a.states → t < b.states → (p : List ℕ) → every (λ c. nat_lt c (a.commands + b.commands)) p ≡ true
     → leads (next_of (product a b)) L (s * b.states + t) p
     ≡ leads (next_of a) L s (left_commands a.commands p) * b.states + leads (next_of b) (λ c. L (a.commands + c)) t (right_commands a.commands p)
