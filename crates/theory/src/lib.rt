@@ -3,6 +3,8 @@
 
 ghost use Rattle.theory.specs.Theorems.{RunsJoin, LockedCommandsMoveNothing, SidesRunApart};
 
+pub mod limits;
+
 // A sequence followed by another leads where the other leads from the end of the first.
 pub fn runs_join() -> bool
     ensures { RunsJoin }
