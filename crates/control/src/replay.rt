@@ -2,9 +2,8 @@
 ghost use Rattle.std.specs.Prelude.{◌≡◌};
 ghost use Rattle.theory.specs.Control.{next_of};
 ghost use Rattle.theory.specs.Runs.{moved, leads};
-ghost use Rattle.policy.specs.Flows.{consoles_of};
 ghost use Rattle.policy.specs.Lockouts.{commands_of, locks};
-ghost use Rattle.policy.specs.Board.{flows_of, lockouts_of};
+ghost use Rattle.policy.specs.Board.{value_of};
 ghost use Rattle.control.specs.Replays.{commands_answer, counts_answer, replay_answer};
 
 use crate::control::Control;
@@ -48,7 +47,7 @@ pub fn check_commands(lockouts: &Lockouts, sequence: &[u8]) -> Result<(), Refusa
 
 // Refused where control and board have different numbers of consoles or of commands.
 pub fn check_counts<C: Control>(board: &Board, control: &C) -> Result<(), Refusal>
-    ensures { result ≡ counts_answer (consoles_of (flows_of board.now)) (commands_of (lockouts_of board.now)) (C.Control.value control.now) }
+    ensures { result ≡ counts_answer (value_of board.now) (C.Control.value control.now) }
 {
     if control.consoles() != board.flows().consoles()
         || control.commands() != board.lockouts().commands()
@@ -60,7 +59,7 @@ pub fn check_counts<C: Control>(board: &Board, control: &C) -> Result<(), Refusa
 
 // The last state of a sequence, run from the start under the board's lockouts.
 pub fn replay<C: Control>(board: &Board, control: &C, sequence: &[u8]) -> Result<usize, Refusal>
-    ensures { result ≡ replay_answer (consoles_of (flows_of board.now)) (locks (lockouts_of board.now)) (commands_of (lockouts_of board.now)) (C.Control.value control.now) sequence.now }
+    ensures { result ≡ replay_answer (value_of board.now) (C.Control.value control.now) sequence.now }
 {
     check_commands(board.lockouts(), sequence)?;
     check_counts(board, control)?;

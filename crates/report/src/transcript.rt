@@ -2,9 +2,8 @@
 ghost use Rattle.std.specs.Prelude.{◌≡◌, [], ◌∷◌, ◌++◌, IfOk, codes, decimal, OnOk};
 ghost use Rattle.theory.specs.Control.{display_of};
 ghost use Rattle.control.specs.Replays.{replay_answer};
-ghost use Rattle.policy.specs.Board.{flows_of, lockouts_of};
-ghost use Rattle.policy.specs.Flows.{consoles_of};
-ghost use Rattle.policy.specs.Lockouts.{commands_of, locks};
+ghost use Rattle.policy.specs.Board.{value_of};
+ghost use Rattle.policy.specs.Lockouts.{locks};
 ghost use Rattle.report.specs.Lines.{padded};
 ghost use Rattle.report.specs.Transcripts.{columns, heading, line, effect_of, closing, lines, transcript_text};
 ghost use Rattle.report.specs.Troubles.{RefusedAs};
@@ -167,8 +166,8 @@ pub fn transcript<C: Control>(
     control: &C,
     sequence: &[u8],
 ) -> Result<Vec<u8>, Trouble>
-    ensures text { IfOk result (λ t. t.items ≡ transcript_text C.Display.DisplayKind.marked (C.Control.value control.now) (locks (lockouts_of board.now)) sequence.now) }
-    ensures refusals { RefusedAs result (replay_answer (consoles_of (flows_of board.now)) (locks (lockouts_of board.now)) (commands_of (lockouts_of board.now)) (C.Control.value control.now) sequence.now) }
+    ensures text { IfOk result (λ t. t.items ≡ transcript_text C.Display.DisplayKind.marked (C.Control.value control.now) (value_of board.now).locked sequence.now) }
+    ensures refusals { RefusedAs result (replay_answer (value_of board.now) (C.Control.value control.now) sequence.now) }
 {
     replay(board, control, sequence)?;
     let mut text = Vec::new(heap);

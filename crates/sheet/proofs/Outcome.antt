@@ -3,10 +3,10 @@ use Rattle.std.proofs.Common.{◌≡◌, ℕ, ◌<◌, ◌≤◌, Bool, true, fa
 use lib.Seq.{sets-eq}
 use Rattle.std.proofs.lemmas.Bool.{le-leb, lt-leb}
 use Rattle.mark.specs.Runs.{is_name}
-use Rattle.policy.specs.Flows.{may_affect}
-use Rattle.policy.specs.declared.flows.Flows.{Flows}
+use Rattle.theory.specs.Flows.{Flow}
 use Rattle.policy.specs.declared.refusal.Refusal.{Refusal}
 use Rattle.policy.specs.declared.refusal.Refusal.TheVariants.{CountsDiffer, OutputTooShort}
+use Rattle.theory.specs.Boards.{BoardValue}
 use Rattle.theory.specs.Control.{ControlValue, Lawful}
 use Rattle.control.specs.Replays.{same_counts, counts_answer}
 use Rattle.sheet.specs.Text.{sheet_text}
@@ -26,32 +26,32 @@ counted short w = omega (arith, w.place)
 written_front : {was is text : List ℕ} {behind : ℕ} → length text ≤ length was → Wrote was 0 text is behind → is ≡ overwritten text was
 written_front {was} {is} {text} room w = w.output ∙ sets-eq text was 0 (omega arith) ∙ ap (λ n. text ++ drop n was) (zero-add (length text))
 
--- A control with a board's counts, and the board's flows as they were lent to be written.
+-- A control with a board's counts, and flows that were lent to be written and say what the board's say.
 module _ {D : Type 0} (kind : List ℕ) (mark : D → List ℕ) (named : is_name kind ≡ true) (short : (x : D) → length (mark x) ≤ 8)
-    (v : ControlValue D) (lawful : Lawful v) (consoles commands : ℕ) {x : Unit {0}} (checked : Ok x ≡ counts_answer consoles commands v)
-    {lent flows : Flows} (held : lent ≡ flows) where
+    (v : ControlValue D) (lawful : Lawful v) (b : BoardValue) where
   abbrev text : List ℕ
-  text = sheet_text kind mark v (may_affect flows)
+  text = sheet_text kind mark v b.flows
 
-  same : same_counts consoles commands v ≡ true
-  same = passed_check (same_counts consoles commands v) x checked
+  module _ {x : Unit {0}} (checked : Ok x ≡ counts_answer b v) {F : Flow} (held : F ≡ b.flows) where
+    same : same_counts b v ≡ true
+    same = passed_check (same_counts b v) x checked
 
-  lent_text : sheet_text kind mark v (may_affect lent) ≡ text
-  lent_text = ap (λ f. sheet_text kind mark v (may_affect f)) held
+    lent_text : sheet_text kind mark v F ≡ text
+    lent_text = ap (sheet_text kind mark v) held
 
-  length_counted : {was is : List ℕ} {n : ℕ} → Wrote was 0 (sheet_text kind mark v (may_affect lent)) is n → n ≡ length text
-  length_counted w = counted (omega (arith, all_fit kind mark named short v (may_affect flows) lawful)) (wrote_as lent_text w)
+    length_counted : {was is : List ℕ} {n : ℕ} → Wrote was 0 (sheet_text kind mark v F) is n → n ≡ length text
+    length_counted w = counted (omega (arith, all_fit kind mark named short v b.flows lawful)) (wrote_as lent_text w)
 
-  module _ {none left : List ℕ} {needed : ℕ} (first : Wrote none 0 (sheet_text kind mark v (may_affect lent)) left needed) (out : List ℕ) where
-    pub refused : length out < needed
-        → (Err (OutputTooShort needed) ≡ write_answer kind mark consoles commands v (may_affect flows) (length out)) × (out ≡ output_after kind mark consoles commands v (may_affect flows) out)
-    refused long =
-        let fits : leb (length text) (length out) ≡ false = lt-leb (length text) (length out) (omega (arith, length_counted first)) in
-        (ap (λ n. Err (OutputTooShort n)) (length_counted first) ∙ simp (same, fits), simp (same, fits))
+    module _ {none left : List ℕ} {needed : ℕ} (first : Wrote none 0 (sheet_text kind mark v F) left needed) (out : List ℕ) where
+      pub refused : length out < needed
+          → (Err (OutputTooShort needed) ≡ write_answer kind mark b v (length out)) × (out ≡ output_after kind mark b v out)
+      refused long =
+          let fits : leb (length text) (length out) ≡ false = lt-leb (length text) (length out) (omega (arith, length_counted first)) in
+          (ap (λ n. Err (OutputTooShort n)) (length_counted first) ∙ simp (same, fits), simp (same, fits))
 
-    pub written : {is : List ℕ} {n : ℕ} → needed ≤ length out → Wrote out 0 (sheet_text kind mark v (may_affect lent)) is n
-        → (Ok n ≡ write_answer kind mark consoles commands v (may_affect flows) (length out)) × (is ≡ output_after kind mark consoles commands v (may_affect flows) out)
-    written enough second =
-        let room : length text ≤ length out = omega (arith, length_counted first) in
-        let fits : leb (length text) (length out) ≡ true = le-leb (length text) (length out) room in
-        (ap Ok (length_counted second) ∙ simp (same, fits), written_front room (wrote_as lent_text second) ∙ simp (same, fits))
+      pub written : {is : List ℕ} {n : ℕ} → needed ≤ length out → Wrote out 0 (sheet_text kind mark v F) is n
+          → (Ok n ≡ write_answer kind mark b v (length out)) × (is ≡ output_after kind mark b v out)
+      written enough second =
+          let room : length text ≤ length out = omega (arith, length_counted first) in
+          let fits : leb (length text) (length out) ≡ true = le-leb (length text) (length out) room in
+          (ap Ok (length_counted second) ∙ simp (same, fits), written_front room (wrote_as lent_text second) ∙ simp (same, fits))

@@ -6,8 +6,8 @@ use Rattle.policy.specs.Flows.{consoles_of, may_affect}
 use Rattle.policy.specs.Lockouts.{commands_of, locks}
 use Rattle.policy.specs.declared.refusal.Refusal.{Refusal}
 use Rattle.policy.specs.declared.refusal.Refusal.TheVariants.{SheetTooLong, TableStoreTooSmall, Fault, CountsDiffer, OutputTooShort}
+use Rattle.theory.specs.Boards.{BoardValue}
 use Rattle.theory.specs.Control.{ControlValue}
-use Rattle.theory.specs.Flows.{Flow}
 use Rattle.control.specs.Replays.{same_counts}
 use Rattle.control.specs.Tables.{store_suffices}
 use Rattle.sheet.specs.Text.{sheet_text}
@@ -58,16 +58,16 @@ abbrev pub store_after : {D A : Type 0} → (Sheet D → List A) → Result (She
 store_after entries (Ok x) store = overwritten (entries x) store
 store_after entries (Err e) store = store
 
--- The writer's answer for a board of these counts and flows, and an output of that length: the
--- length of the sheet, or the refusal; and what the output holds then.
-module _ {D : Type 0} (kind : List ℕ) (mark : D → List ℕ) (consoles commands : ℕ) (v : ControlValue D) (F : Flow) where
+-- The writer's answer for a board and an output of that length: the length of the sheet, or the
+-- refusal; and what the output holds then.
+module _ {D : Type 0} (kind : List ℕ) (mark : D → List ℕ) (b : BoardValue) (v : ControlValue D) where
   abbrev pub write_answer : ℕ → Result ℕ Refusal
   write_answer room =
-      let needed : ℕ = length (sheet_text kind mark v F) in
-      cond (same_counts consoles commands v) (cond (nat_le needed room) (Ok needed) (Err (OutputTooShort needed))) (Err CountsDiffer)
+      let needed : ℕ = length (sheet_text kind mark v b.flows) in
+      cond (same_counts b v) (cond (nat_le needed room) (Ok needed) (Err (OutputTooShort needed))) (Err CountsDiffer)
 
   abbrev written : Result ℕ Refusal → List ℕ → List ℕ
-  written (Ok n) out = overwritten (sheet_text kind mark v F) out
+  written (Ok n) out = overwritten (sheet_text kind mark v b.flows) out
   written (Err e) out = out
 
   abbrev pub output_after : List ℕ → List ℕ

@@ -1,8 +1,7 @@
 // The writer: a control and its flows as a sheet, in an output of the caller's.
 ghost use Rattle.std.specs.Prelude.{◌≡◌, length};
-ghost use Rattle.policy.specs.Board.{flows_of, lockouts_of};
-ghost use Rattle.policy.specs.Flows.{consoles_of, may_affect};
-ghost use Rattle.policy.specs.Lockouts.{commands_of};
+ghost use Rattle.policy.specs.Board.{value_of};
+ghost use Rattle.policy.specs.Flows.{may_affect};
 ghost use Rattle.sheet.specs.Text.{sheet_text};
 ghost use Rattle.sheet.specs.Calls.{write_answer, output_after};
 ghost use Rattle.sheet.specs.Written.{Wrote};
@@ -35,8 +34,8 @@ fn sheet<C: Control>(control: &C, permitted: &Flows, out: &mut [u8]) -> usize
 // Writes the sheet to the front of the output, and answers its length. Refused where control and
 // board differ in their counts, or where the output is too short; it is then left as it was.
 pub fn write<C: Control>(control: &C, board: &Board, out: &mut [u8]) -> Result<usize, Refusal>
-    ensures answer { result ≡ write_answer C.Display.DisplayKind.kind C.Display.DisplayKind.marked (consoles_of (flows_of board.now)) (commands_of (lockouts_of board.now)) (C.Control.value control.now) (may_affect (flows_of board.now)) (length out.old) }
-    ensures output { out.new ≡ output_after C.Display.DisplayKind.kind C.Display.DisplayKind.marked (consoles_of (flows_of board.now)) (commands_of (lockouts_of board.now)) (C.Control.value control.now) (may_affect (flows_of board.now)) out.old }
+    ensures answer { result ≡ write_answer C.Display.DisplayKind.kind C.Display.DisplayKind.marked (value_of board.now) (C.Control.value control.now) (length out.old) }
+    ensures output { out.new ≡ output_after C.Display.DisplayKind.kind C.Display.DisplayKind.marked (value_of board.now) (C.Control.value control.now) out.old }
 {
     check_counts(board, control)?;
     let permitted = board.flows();
