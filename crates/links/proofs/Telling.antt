@@ -1,6 +1,7 @@
 -- For TA: how what consoles know runs through a sequence, and that a link keeps what the console was told.
-use Rattle.std.proofs.Common.{◌≡◌, ℕ, Bool, true, false, cond, not, ◌&&◌, eqb, List, [], ◌∷◌, ◌++◌, refl, ap₂}
+use Rattle.std.proofs.Common.{◌≡◌, ℕ, Bool, true, false, cond, not, ◌&&◌, eqb, List, [], ◌∷◌, refl, ap, ap₂}
 use Rattle.std.proofs.lemmas.Bool.{true≢false, not-true, and_parts, cond-false}
+use Rattle.std.proofs.lemmas.List.Sums.{fold_push}
 use Rattle.theory.specs.Flows.{Flow}
 use Rattle.links.specs.Sequences.{All}
 use Rattle.links.specs.Transmitted.{Told, nothing, told, hears, hears_all}
@@ -10,11 +11,6 @@ use Rattle.links.specs.Growth.{TaGrows}
 use Rattle.links.proofs.Sequences.{all_map}
 
 module _ (F : Flow) (owner : ℕ → ℕ) where
-  -- a sequence after another goes on from what the first left
-  hears_after : (f : ℕ → Told) (r s : List ℕ) (u : ℕ) → hears_all F owner f (r ++ s) u ≡ hears_all F owner (hears_all F owner f r) s u
-  hears_after f [] s u = refl
-  hears_after f (a ∷ r) s u = hears_after (hears F owner f a) r s u
-
   -- a command keeps agreement where the console and the giver have it
   pub hears_agrees : (f g : ℕ → Told) (a z : ℕ) → f z ≡ g z → f (owner a) ≡ g (owner a) → hears F owner f a z ≡ hears F owner g a z
   hears_agrees f g a z at-z at-giver = ap₂ (λ x y. cond (F (owner a) z) (told x y a) x) at-z at-giver
@@ -58,4 +54,4 @@ module _ (F : Flow) (owner : ℕ → ℕ) where
   link_keeps_told (later c l) f = link_keeps_told l (hears F owner f c)
 
 pub ta_grows : TaGrows
-ta_grows F owner u r a = (refl, hears_after F owner (λ _. nothing) r (a ∷ []) u)
+ta_grows F owner u r a = (refl, ap (λ knows. knows u) (fold_push (hears F owner) (λ _. nothing) r a))
