@@ -1,5 +1,5 @@
 -- For flows taken away: a yes to a question of the three meanings stays, and so does a yes to `alike` of any faithful meaning.
-use Rattle.std.proofs.Common.{◌≡◌, ℕ, Bool, true, false, not, ◌&&◌, eqb, List, refl}
+use Rattle.std.proofs.Common.{◌≡◌, ℕ, Bool, true, false, not, ◌&&◌, eqb, List, refl, arith}
 use Rattle.std.proofs.lemmas.Bool.{and_parts, and_from}
 use Rattle.theory.specs.Flows.{Flow}
 use Rattle.links.specs.Meaning.{MeaningValue}
@@ -56,9 +56,7 @@ laws faith questions even = record { faithful = faith; antitone = antitone faith
 
 -- a no stays a no where fewer things hold
 no_stays : (x y : Bool) → (x ≡ true → y ≡ true) → not y ≡ true → not x ≡ true
-no_stays true true f e = e
-no_stays true false f e = f refl
-no_stays false y f e = refl
+no_stays x y f e = grind arith
 
 and_map : (x y z w : Bool) → (x ≡ true → z ≡ true) → (y ≡ true → w ≡ true) → (x && y) ≡ true → (z && w) ≡ true
 and_map x y z w f g e = let parts = and_parts x y e in and_from z w (f parts.0) (g parts.1)

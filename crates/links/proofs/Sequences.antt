@@ -4,10 +4,7 @@ use Rattle.std.proofs.lemmas.Bool.{false≢true, or_cases, or_parts}
 use Rattle.std.proofs.lemmas.List.Elements.{All-from_recursion}
 use Rattle.std.proofs.lemmas.List.Folds.{list_any_none}
 use Rattle.links.specs.Sequences.{All, some_of}
-
--- a sequence of the commands below n
-abbrev pub Below : ℕ → List ℕ → Type 0
-Below n p = All (λ c. c < n) p
+pub use Rattle.links.specs.Sequences.{Below}
 
 -- numbers that a test answers differently differ
 pub differ_by_test : (f : ℕ → Bool) {v w : ℕ} → f v ≡ true → f w ≡ false → v ≡ w → ⊥

@@ -1,6 +1,6 @@
 -- For TA: what watched consoles know while a command is looked for in a turned sequence, and what it says of the consoles of the commands passed.
 use Rattle.std.proofs.Common.{◌≡◌, ℕ, ◌≤◌, Bool, true, false, List, ◌∷◌, sym, refl, ap, ◌∙◌, inl, inr, arith}
-use Rattle.std.proofs.lemmas.Bool.{both_ways, eq-eqb, ne_eqb, and_cases}
+use Rattle.std.proofs.lemmas.Bool.{both_ways, eq-eqb, ne_eqb, and_cases, false_from_ne_true}
 use Rattle.theory.specs.Flows.{Flow}
 use Rattle.links.specs.Transmitted.{Told, told}
 use Rattle.links.specs.Three.{both}
@@ -43,44 +43,36 @@ module _ (F : Flow) (owner : ℕ → ℕ) where
 
       -- The giver of a does not affect that of b: else the latter had heard more commands of it than x may know.
       giver_unaffected : F (owner a) (owner b) ≡ false
-      giver_unaffected = go (F (owner a) (owner b)) refl
-        where
-          go : (e : Bool) → F (owner a) (owner b) ≡ e → e ≡ false
-          go true affects =
-              let w = owner a in
-              let seen = at_y.hit a_to_y in
-              absurd (omega (
-                arith,
-                at_x.miss a_to_x,
-                most_giver F owner w b t x b_to_x,
-                spine_most owner w (knows F owner t (owner b)),
-                spine_acts F owner w (owner b) affects t,
-                spine_acts F owner w y a_to_y t,
-                ap (spine owner w) seen.1,
-                seen.2,
-                ap counted (eq-eqb w w refl),
-              ))
-          go false _ = refl
+      giver_unaffected =
+          let w = owner a in
+          let seen = at_y.hit a_to_y in
+          false_from_ne_true (F w (owner b)) (λ affects. omega (
+            arith,
+            at_x.miss a_to_x,
+            most_giver F owner w b t x b_to_x,
+            spine_most owner w (knows F owner t (owner b)),
+            spine_acts F owner w (owner b) affects t,
+            spine_acts F owner w y a_to_y t,
+            ap (spine owner w) seen.1,
+            seen.2,
+            ap counted (eq-eqb w w refl),
+          ))
 
       -- Nor the other way round: else the giver of a had heard b as well, and so one command more than there are before b.
       giver_not_affecting : F (owner b) (owner a) ≡ false
-      giver_not_affecting = go (F (owner b) (owner a)) refl
-        where
-          go : (e : Bool) → F (owner b) (owner a) ≡ e → e ≡ false
-          go true affects =
-              let v = owner b in
-              let seen = at_y.hit a_to_y in
-              absurd (omega (
-                arith,
-                at_x.low v (differ_by_test (λ c. F c x) b_to_x a_to_x) affects,
-                spine_most owner v (knows F owner (b ∷ t) x),
-                spine_acts F owner v x b_to_x (b ∷ t),
-                ap counted (eq-eqb v v refl),
-                spine_most owner v side,
-                ap (most owner v) seen.1,
-                most_acts F owner v y t,
-              ))
-          go false _ = refl
+      giver_not_affecting =
+          let v = owner b in
+          let seen = at_y.hit a_to_y in
+          false_from_ne_true (F v (owner a)) (λ affects. omega (
+            arith,
+            at_x.low v (differ_by_test (λ c. F c x) b_to_x a_to_x) affects,
+            spine_most owner v (knows F owner (b ∷ t) x),
+            spine_acts F owner v x b_to_x (b ∷ t),
+            ap counted (eq-eqb v v refl),
+            spine_most owner v side,
+            ap (most owner v) seen.1,
+            most_acts F owner v y t,
+          ))
 
       -- And the giver of b shows a, since x was told what it knew.
       pub giver_shows : (F (owner a) (owner b) ≡ false) × (F (owner b) (owner a) ≡ false) × Shows F owner a side count (owner b) (knows F owner t (owner b))
