@@ -1,5 +1,5 @@
 -- For TA: how what consoles know runs through a sequence, and that a link keeps what the console was told.
-use Rattle.std.proofs.Common.{◌≡◌, ℕ, Bool, true, false, cond, not, ◌&&◌, eqb, List, [], ◌∷◌, refl, ap, ap₂}
+use Rattle.std.proofs.Common.{◌≡◌, ℕ, Bool, true, false, cond, not, ◌&&◌, eqb, List, [], ◌∷◌, refl, ap, ap₂, arith}
 use Rattle.std.proofs.lemmas.Bool.{true≢false, not-true, and_parts, cond-false}
 use Rattle.std.proofs.lemmas.List.Sums.{fold_push}
 use Rattle.theory.specs.Flows.{Flow}
@@ -33,11 +33,7 @@ module _ (F : Flow) (owner : ℕ → ℕ) where
 
   -- what a yes to the exchange question says
   exchange_parts : (u v w : ℕ) → transmitted_meaning.exchange F u v w ≡ true → (F v w ≡ false) × (F w v ≡ false) × (both F v w u ≡ false)
-  exchange_parts u v w e =
-      let others = (and_parts (not (eqb v w)) _ e).1 in
-      let there = and_parts (not (F v w)) _ others in
-      let back = and_parts (not (F w v)) _ there.1 in
-      (not-true (F v w) there.0, not-true (F w v) back.0, not-true (both F v w u) back.1)
+  exchange_parts u v w e = (grind arith, grind arith, grind arith)
 
   -- so a link keeps what the console is told, whatever each console knew before
   pub link_keeps_told : {n u : ℕ} {p q : List ℕ} → Link transmitted_meaning n F owner u p q → (f : ℕ → Told) → hears_all F owner f p u ≡ hears_all F owner f q u
