@@ -1,8 +1,7 @@
 -- For the exchange questions of the three meanings: the order of the two consoles does not count.
-use Rattle.std.proofs.Common.{◌≡◌, ℕ, Bool, true, false, not, ◌&&◌, sym, refl, ◌∙◌}
+use Rattle.std.proofs.Common.{◌≡◌, ℕ, Bool, true, false, not, ◌&&◌, sym, refl, ◌∙◌, arith}
 use Rattle.std.proofs.lemmas.Bool.{eq-eqb}
-use Rattle.std.proofs.lemmas.Cmp.{nat_eq_equiv}
-use Rattle.std.proofs.Math.Bool.{and_comm}
+use Rattle.std.proofs.lemmas.Bool.Decides.{nat_tests}
 use Rattle.theory.specs.Flows.{Flow}
 use Rattle.links.specs.Meaning.{MeaningValue}
 use Rattle.links.specs.Laws.{Evenhanded}
@@ -22,17 +21,9 @@ purge_evenhanded = never_exchanging purge_meaning (λ F u v w. refl) (λ F u v w
 pub intransitive_purge_evenhanded : Evenhanded intransitive_purge_meaning
 intransitive_purge_evenhanded = never_exchanging intransitive_purge_meaning (λ F u v w. refl) (λ F u v w z. refl)
 
-both_turned : (F : Flow) (v w z : ℕ) → both F v w z ≡ both F w v z
-both_turned F v w z = and_comm (F v z) (F w z)
-
-and_swapped : (x y z : Bool) → (x && (y && z)) ≡ (y && (x && z))
-and_swapped true y z = refl
-and_swapped false true z = refl
-and_swapped false false z = refl
-
 pub transmitted_evenhanded : Evenhanded transmitted_meaning
 transmitted_evenhanded = record {
-  exchange = λ k F _ u v w _ _ _. rw (nat_eq_equiv.symm v w, both_turned F v w u, and_swapped (not (F v w)) (not (F w v)) _);
-  after_exchange = λ k F _ u v w z _ _ _ _. rw (both_turned F v w z);
+  exchange = λ k F _ u v w _ _ _. grind (arith, nat_tests);
+  after_exchange = λ k F _ u v w z _ _ _ _. grind arith;
   never_itself = λ k F _ u v _ _. rw (eq-eqb v v refl);
 }

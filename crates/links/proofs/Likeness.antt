@@ -1,5 +1,6 @@
 -- For the answers of the three meanings: two sequences are alike exactly when what is left of them is equal.
-use Rattle.std.proofs.Common.{◌≡◌, true, ◌&&◌, eqb, refl}
+use Rattle.std.proofs.Common.{◌≡◌, true, ◌&&◌, eqb, refl, arith}
+use Rattle.std.proofs.lemmas.Bool.Decides.{nat_tests}
 use Rattle.std.proofs.lemmas.Bool.{false≢true, eqb-true, eq-eqb, and_parts}
 use Rattle.std.specs.Cmp.Lexicographic.{bytes_decides}
 use Rattle.links.specs.Purge.{purge}
@@ -10,12 +11,9 @@ use Rattle.links.specs.Equality.{AlikeWhereEqual}
 
 same_told_to_equal : (x y : Told) → same_told x y ≡ true → x ≡ y
 same_told_to_equal nothing nothing e = refl
-same_told_to_equal nothing (told f g b) e = absurd (false≢true e)
-same_told_to_equal (told d h a) nothing e = absurd (false≢true e)
-same_told_to_equal (told d h a) (told f g b) e =
-    let parts = and_parts (eqb a b) (same_told d f && same_told h g) e in
-    let earlier = and_parts (same_told d f) (same_told h g) parts.1 in
-    cc (eqb-true a b parts.0, same_told_to_equal d f earlier.0, same_told_to_equal h g earlier.1)
+same_told_to_equal nothing (told f g b) e = cc
+same_told_to_equal (told d h a) nothing e = cc
+same_told_to_equal (told d h a) (told f g b) e = grind (arith, nat_tests, same_told_to_equal d f, same_told_to_equal h g)
 
 same_told_as_itself : (x : Told) → same_told x x ≡ true
 same_told_as_itself nothing = refl

@@ -23,13 +23,7 @@ module _ (F : Flow) (owner : ℕ → ℕ) where
 
   -- Neighbours may be exchanged where neither giver may affect the other and not both may affect the console.
   pub exchange_agrees : (f : ℕ → Told) (a b z : ℕ) → F (owner a) (owner b) ≡ false → F (owner b) (owner a) ≡ false → both F (owner a) (owner b) z ≡ false → hears F owner (hears F owner f a) b z ≡ hears F owner (hears F owner f b) a z
-  exchange_agrees f a b z ab ba not_both = rw (ab, ba) (go (F (owner a) z) (F (owner b) z) not_both)
-    where
-      go : (x y : Bool) → (x && y) ≡ false → cond y (told (cond x (told (f z) (f (owner a)) a) (f z)) (f (owner b)) b) (cond x (told (f z) (f (owner a)) a) (f z)) ≡ cond x (told (cond y (told (f z) (f (owner b)) b) (f z)) (f (owner a)) a) (cond y (told (f z) (f (owner b)) b) (f z))
-      go true true e = absurd (true≢false e)
-      go true false e = refl
-      go false true e = refl
-      go false false e = refl
+  exchange_agrees f a b z ab ba not_both = grind arith
 
   -- what a yes to the exchange question says
   exchange_parts : (u v w : ℕ) → transmitted_meaning.exchange F u v w ≡ true → (F v w ≡ false) × (F w v ≡ false) × (both F v w u ≡ false)
