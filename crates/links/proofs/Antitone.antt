@@ -1,11 +1,10 @@
 -- For flows taken away: a yes to a question of the three meanings stays, and so does a yes to `alike` of any faithful meaning.
-use Rattle.std.proofs.Common.{◌≡◌, ℕ, Bool, true, false, not, ◌&&◌, eqb, List, refl, arith}
-use Rattle.std.proofs.lemmas.Bool.{and_parts, and_from}
+use Rattle.std.proofs.Common.{◌≡◌, ℕ, true, not, List, refl, arith}
 use Rattle.theory.specs.Flows.{Flow}
 use Rattle.links.specs.Meaning.{MeaningValue}
 use Rattle.links.specs.Links.{Link, drops, exchanges, later, Linked, done, there, back}
 use Rattle.links.specs.Laws.{Setting, Fewer, Faithful, Antitone, Evenhanded, MeaningLaws}
-use Rattle.links.specs.Three.{both, purge_meaning, intransitive_purge_meaning, transmitted_meaning}
+use Rattle.links.specs.Three.{purge_meaning, intransitive_purge_meaning, transmitted_meaning}
 use Rattle.links.proofs.Sequences.{Below, all_with}
 use Rattle.links.proofs.Chains.{there_within, back_within}
 

@@ -1,9 +1,8 @@
 -- For TA: how many commands of a console d stand in a sequence and in what a console was told of it.
-use Rattle.std.proofs.Common.{◌≡◌, ℕ, ◌+◌, ◌≤◌, max, Bool, true, false, eqb, List, [], ◌∷◌, sym, refl, arith}
+use Rattle.std.proofs.Common.{◌≡◌, ℕ, ◌+◌, ◌≤◌, max, Bool, true, false, eqb, List, [], ◌∷◌, refl, arith}
 use Rattle.std.proofs.lemmas.Bool.{ne_eqb}
 use Rattle.theory.specs.Flows.{Flow}
 use Rattle.links.specs.Transmitted.{Told, nothing, told}
-use Rattle.links.proofs.Sequences.{differ_by_test}
 use Rattle.links.proofs.Turning.{knows, one_more}
 
 -- how much a test adds to a count
@@ -38,7 +37,7 @@ module _ (F : Flow) (owner : ℕ → ℕ) (d : ℕ) where
       let on = spine_acts u e s in
       one_more F owner b s u (λ t. spine owner d t ≡ acts owner d (b ∷ s))
       (λ heard. omega arith)
-      (λ unheard. rw (ne_eqb (owner b) d (λ same. differ_by_test (λ c. F c u) e unheard (sym same))) (omega arith))
+      (λ unheard. rw (ne_eqb (owner b) d (λ same. cc)) (omega arith))
 
   pub most_acts : (u : ℕ) (s : List ℕ) → most owner d (knows F owner s u) ≤ acts owner d s
   most_acts u [] = omega arith

@@ -1,11 +1,11 @@
 -- For the exchange questions of the three meanings: the order of the two consoles does not count.
-use Rattle.std.proofs.Common.{◌≡◌, ℕ, Bool, true, false, not, ◌&&◌, sym, refl, ◌∙◌, arith}
+use Rattle.std.proofs.Common.{◌≡◌, ℕ, false, sym, refl, ◌∙◌, arith}
 use Rattle.std.proofs.lemmas.Bool.{eq-eqb}
 use Rattle.std.proofs.lemmas.Bool.Decides.{nat_tests}
 use Rattle.theory.specs.Flows.{Flow}
 use Rattle.links.specs.Meaning.{MeaningValue}
 use Rattle.links.specs.Laws.{Evenhanded}
-use Rattle.links.specs.Three.{both, purge_meaning, intransitive_purge_meaning, transmitted_meaning}
+use Rattle.links.specs.Three.{purge_meaning, intransitive_purge_meaning, transmitted_meaning}
 
 -- a meaning that exchanges no commands
 never_exchanging : (m : MeaningValue) → ((F : Flow) (u v w : ℕ) → m.exchange F u v w ≡ false) → ((F : Flow) (u v w z : ℕ) → m.after_exchange F u v w z ≡ false) → Evenhanded m

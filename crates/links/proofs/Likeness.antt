@@ -1,7 +1,7 @@
 -- For the answers of the three meanings: two sequences are alike exactly when what is left of them is equal.
-use Rattle.std.proofs.Common.{◌≡◌, true, ◌&&◌, eqb, refl, arith}
+use Rattle.std.proofs.Common.{◌≡◌, true, refl, arith}
 use Rattle.std.proofs.lemmas.Bool.Decides.{nat_tests}
-use Rattle.std.proofs.lemmas.Bool.{false≢true, eqb-true, eq-eqb, and_parts}
+use Rattle.std.proofs.lemmas.Bool.{eq-eqb}
 use Rattle.std.specs.Cmp.Lexicographic.{bytes_decides}
 use Rattle.links.specs.Purge.{purge}
 use Rattle.links.specs.Sources.{intransitive_purge}

@@ -1,5 +1,5 @@
 -- For P: the plain purge selects the commands whose consoles may affect the console.
-use Rattle.std.proofs.Common.{◌≡◌, ℕ, refl}
+use Rattle.std.proofs.Common.{refl}
 use Rattle.std.proofs.lemmas.Bool.{not-true, not_from_false}
 use Rattle.links.specs.Purge.{purge}
 use Rattle.links.specs.Laws.{MeaningLaws}

@@ -1,14 +1,10 @@
 -- For facts of each element of a sequence, and tests of numbers and of some element.
-use Rattle.std.proofs.Common.{◌≡◌, ℕ, ◌<◌, Bool, true, false, List, [], ◌∷◌, inl, inr}
+use Rattle.std.proofs.Common.{◌≡◌, ℕ, Bool, true, false, List, [], ◌∷◌, inl, inr}
 use Rattle.std.proofs.lemmas.Bool.{false≢true, or_cases, or_parts}
 use Rattle.std.proofs.lemmas.List.Elements.{All-from_recursion}
 use Rattle.std.proofs.lemmas.List.Folds.{list_any_none}
 use Rattle.links.specs.Sequences.{All, some_of}
 pub use Rattle.links.specs.Sequences.{Below}
-
--- numbers that a test answers differently differ
-pub differ_by_test : (f : ℕ → Bool) {v w : ℕ} → f v ≡ true → f w ≡ false → v ≡ w → ⊥
-differ_by_test f passes fails same = cc
 
 pub all_given : {P : ℕ → Type 0} → ((x : ℕ) → P x) → (xs : List ℕ) → All P xs
 all_given f [] = tt

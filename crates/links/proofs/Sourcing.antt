@@ -7,7 +7,7 @@ use Rattle.links.specs.Sources.{sources, intransitive_purge}
 use Rattle.links.specs.Links.{Link, drops, exchanges, later}
 use Rattle.links.specs.Laws.{Setting, MeaningLaws}
 use Rattle.links.specs.Three.{intransitive_purge_meaning}
-use Rattle.links.proofs.Sequences.{Below, differ_by_test, all_map, none_passes, all_fail}
+use Rattle.links.proofs.Sequences.{Below, all_map, none_passes, all_fail}
 use Rattle.links.proofs.Likeness.{intransitive_purge_alike}
 use Rattle.links.proofs.Selecting.{Selects, selecting_faithful}
 use Rattle.links.proofs.Antitone.{laws, intransitive_purge_questions}
@@ -18,7 +18,7 @@ use Rattle.links.proofs.Evenhanded.{intransitive_purge_evenhanded}
 added_where_affecting : (F : Flow) (w : ℕ) → F w w ≡ true → (s : List ℕ) (b : Bool) → some_of (F w) s ≡ b → some_of (eqb w) (cond b (w ∷ s) s) ≡ b
 added_where_affecting F w self s true e = or_left (eqb w w) (some_of (eqb w) s) (eq-eqb w w refl)
 added_where_affecting F w self s false e =
-    all_fail (eqb w) s (all_map (λ x unaffected. ne_eqb w x (differ_by_test (F w) self unaffected)) s (none_passes (F w) s e))
+    all_fail (eqb w) s (all_map (λ x unaffected. ne_eqb w x (λ same. cc)) s (none_passes (F w) s e))
 
 module _ {k n : ℕ} {F : Flow} {owner : ℕ → ℕ} {u : ℕ} (setting : Setting k n F owner u) where
   -- a command is kept where its console may affect a source of what follows

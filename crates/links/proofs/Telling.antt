@@ -1,6 +1,6 @@
 -- For TA: how what consoles know runs through a sequence, and that a link keeps what the console was told.
-use Rattle.std.proofs.Common.{◌≡◌, ℕ, Bool, true, false, cond, not, ◌&&◌, eqb, List, [], ◌∷◌, refl, ap, ap₂, arith}
-use Rattle.std.proofs.lemmas.Bool.{true≢false, not-true, and_parts, cond-false}
+use Rattle.std.proofs.Common.{◌≡◌, ℕ, true, false, cond, not, List, [], ◌∷◌, refl, ap, ap₂, arith}
+use Rattle.std.proofs.lemmas.Bool.{not-true, cond-false}
 use Rattle.std.proofs.lemmas.List.Sums.{fold_push}
 use Rattle.theory.specs.Flows.{Flow}
 use Rattle.links.specs.Sequences.{All}
