@@ -10,7 +10,7 @@ abbrev pub counted : Bool → ℕ
 counted true = 1
 counted false = 0
 
--- the commands of d in a sequence
+-- the commands of d in a sequence; the sum that std's count_by is does not compute one command on, as omega needs here
 abbrev pub acts : (ℕ → ℕ) → ℕ → List ℕ → ℕ
 acts owner d [] = 0
 acts owner d (b ∷ s) = counted (eqb (owner b) d) + acts owner d s

@@ -1,6 +1,6 @@
 -- For IP: a link keeps the sources, and the intransitive purge selects the commands whose consoles may affect one.
-use Rattle.std.proofs.Common.{◌≡◌, ℕ, ◌<◌, Bool, true, false, cond, eqb, List, [], ◌∷◌, refl, ap}
-use Rattle.std.proofs.lemmas.Bool.{false≢true, not-true, not_from_false, eq-eqb, ne_eqb, or_left, cond-false, cond_both}
+use Rattle.std.proofs.Common.{◌≡◌, ℕ, ◌<◌, Bool, true, false, cond, eqb, List, [], ◌∷◌, refl, ap, inl, inr}
+use Rattle.std.proofs.lemmas.Bool.{false≢true, not-true, not_from_false, eq-eqb, ne_eqb, or_left, cond-false, cond_both, cases_Bool}
 use Rattle.theory.specs.Flows.{Flow}
 use Rattle.links.specs.Sequences.{All, some_of}
 use Rattle.links.specs.Sources.{sources, intransitive_purge}
@@ -40,14 +40,13 @@ module _ {k n : ℕ} {F : Flow} {owner : ℕ → ℕ} {u : ℕ} (setting : Setti
   all_from_sources : (P : ℕ → Type 0) (r : List ℕ) → Below n r → All P (sources F owner u r) → P u × All (λ c. P (owner c)) (intransitive_purge F owner u r)
   all_from_sources P [] below h = (h.0, tt)
   all_from_sources P (a ∷ r) below h =
-      rw (purge_step a r below.0) (go (some_of (F (owner a)) (sources F owner u r)) (all_from_sources P r below.1) h)
-    where
-      left : List ℕ
-      left = intransitive_purge F owner u r
-
-      go : (b : Bool) → (All P (sources F owner u r) → P u × All (λ c. P (owner c)) left) → All P (cond b (owner a ∷ sources F owner u r) (sources F owner u r)) → P u × All (λ c. P (owner c)) (cond b (a ∷ left) left)
-      go true on h = let rest = on h.1 in (rest.0, (h.0, rest.1))
-      go false on h = on h
+      elim (cases_Bool (some_of (F (owner a)) (sources F owner u r))) [
+        | inl kept ↦
+            let here = rw kept at h in
+            let rest = all_from_sources P r below.1 here.1 in
+            rw (purge_step a r below.0, kept) (rest.0, (here.0, rest.1))
+        | inr unkept ↦ rw (purge_step a r below.0, unkept) (all_from_sources P r below.1 (rw unkept at h))
+      ]
 
   -- a console of which a command may be dropped affects no source of what follows
   affects_no_source : (w : ℕ) (r : List ℕ) → intransitive_purge_meaning.drop F u w ≡ true → All (λ c. intransitive_purge_meaning.after_drop F u w (owner c) ≡ true) r → some_of (F w) (sources F owner u r) ≡ false

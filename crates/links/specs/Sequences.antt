@@ -1,6 +1,7 @@
 -- Words of std on the elements of a sequence, and equality of sequences as a test.
 use Rattle.std.specs.Prelude.{ℕ, ◌<◌, Bool, List, nat_eq}
 use Rattle.std.specs.Cmp.Lexicographic.{pointwise}
+-- std has `All` by index too, but a link is taken apart one command at a time
 pub use Rattle.std.specs.List.{AllByRecursion as All, list_any as some_of}
 
 -- a sequence of the commands below n
