@@ -9,7 +9,7 @@ use Rattle.links.specs.Links.{Linked}
 use Rattle.links.proofs.Sequences.{Below}
 use Rattle.links.proofs.Chains.{linked_later}
 
--- a turned sequence put back in front of another; std's reverse_aux, which is the same, does not unfold here
+-- a turned sequence put back in front of another; std's reverse_aux is the same, but each lemma would have to unfold it by name
 abbrev pub onto : List ℕ → List ℕ → List ℕ
 onto [] r = r
 onto (a ∷ s) r = onto s (a ∷ r)
