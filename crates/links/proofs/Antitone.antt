@@ -1,11 +1,10 @@
 -- For flows taken away: a yes to a question of the three meanings stays, and so does a yes to `alike` of any faithful meaning.
-use Rattle.std.proofs.Common.{◌≡◌, ℕ, Bool, true, false, not, ◌&&◌, eqb, List, refl}
-use Rattle.std.proofs.lemmas.Bool.{and_parts, and_from}
+use Rattle.std.proofs.Common.{◌≡◌, ℕ, true, not, List, refl, arith}
 use Rattle.theory.specs.Flows.{Flow}
 use Rattle.links.specs.Meaning.{MeaningValue}
 use Rattle.links.specs.Links.{Link, drops, exchanges, later, Linked, done, there, back}
 use Rattle.links.specs.Laws.{Setting, Fewer, Faithful, Antitone, Evenhanded, MeaningLaws}
-use Rattle.links.specs.Three.{both, purge_meaning, intransitive_purge_meaning, transmitted_meaning}
+use Rattle.links.specs.Three.{purge_meaning, intransitive_purge_meaning, transmitted_meaning}
 use Rattle.links.proofs.Sequences.{Below, all_with}
 use Rattle.links.proofs.Chains.{there_within, back_within}
 
@@ -55,20 +54,8 @@ pub laws : {m : MeaningValue} → Faithful m → Antitone (questions_of m) → E
 laws faith questions even = record { faithful = faith; antitone = antitone faith questions; evenhanded = even }
 
 -- a no stays a no where fewer things hold
-no_stays : (x y : Bool) → (x ≡ true → y ≡ true) → not y ≡ true → not x ≡ true
-no_stays true true f e = e
-no_stays true false f e = f refl
-no_stays false y f e = refl
-
-and_map : (x y z w : Bool) → (x ≡ true → z ≡ true) → (y ≡ true → w ≡ true) → (x && y) ≡ true → (z && w) ≡ true
-and_map x y z w f g e = let parts = and_parts x y e in and_from z w (f parts.0) (g parts.1)
-
 no_flow_stays : {F G : Flow} → Fewer F G → (v w : ℕ) → not (G v w) ≡ true → not (F v w) ≡ true
-no_flow_stays {F} {G} within v w = no_stays (F v w) (G v w) (within v w)
-
-not_both_stays : {F G : Flow} → Fewer F G → (v w z : ℕ) → not (both G v w z) ≡ true → not (both F v w z) ≡ true
-not_both_stays {F} {G} within v w z =
-    no_stays (both F v w z) (both G v w z) (and_map (F v z) (F w z) (G v z) (G w z) (within v z) (within w z))
+no_flow_stays within v w unaffected = grind (arith, within v w)
 
 pub purge_questions : Antitone (questions_of purge_meaning)
 purge_questions = record {
@@ -93,10 +80,6 @@ transmitted_questions = record {
   alike = purge_questions.alike;
   drop = purge_questions.drop;
   after_drop = intransitive_purge_questions.after_drop;
-  exchange = λ k F G _ _ within u v w _ _ _.
-      and_map (not (eqb v w)) _ (not (eqb v w)) _ (λ e. e)
-      (and_map (not (G v w)) _ (not (F v w)) _ (no_flow_stays within v w)
-      (and_map (not (G w v)) _ (not (F w v)) _ (no_flow_stays within w v)
-      (not_both_stays within v w u)));
-  after_exchange = λ k F G _ _ within u v w z _ _ _ _. not_both_stays within v w z;
+  exchange = λ k F G _ _ within u v w _ _ _ yes_exchange. grind (arith, within v w, within w v, within v u, within w u);
+  after_exchange = λ k F G _ _ within u v w z _ _ _ _ yes_after. grind (arith, within v z, within w z);
 }

@@ -1,45 +1,29 @@
 -- For the exchange questions of the three meanings: the order of the two consoles does not count.
-use Rattle.std.proofs.Common.{◌≡◌, ℕ, Bool, true, false, not, ◌&&◌, eqb, refl, arith}
+use Rattle.std.proofs.Common.{◌≡◌, ℕ, false, sym, refl, ◌∙◌, arith}
 use Rattle.std.proofs.lemmas.Bool.{eq-eqb}
 use Rattle.std.proofs.lemmas.Bool.Decides.{nat_tests}
 use Rattle.theory.specs.Flows.{Flow}
+use Rattle.links.specs.Meaning.{MeaningValue}
 use Rattle.links.specs.Laws.{Evenhanded}
-use Rattle.links.specs.Three.{both, purge_meaning, intransitive_purge_meaning, transmitted_meaning}
+use Rattle.links.specs.Three.{purge_meaning, intransitive_purge_meaning, transmitted_meaning}
+
+-- a meaning that exchanges no commands
+never_exchanging : (m : MeaningValue) → ((F : Flow) (u v w : ℕ) → m.exchange F u v w ≡ false) → ((F : Flow) (u v w z : ℕ) → m.after_exchange F u v w z ≡ false) → Evenhanded m
+never_exchanging m never nowhere = record {
+  exchange = λ k F _ u v w _ _ _. never F u v w ∙ sym (never F u w v);
+  after_exchange = λ k F _ u v w z _ _ _ _. nowhere F u v w z ∙ sym (nowhere F u w v z);
+  never_itself = λ k F _ u v _ _. never F u v v;
+}
 
 pub purge_evenhanded : Evenhanded purge_meaning
-purge_evenhanded = record {
-  exchange = λ k F _ u v w _ _ _. refl;
-  after_exchange = λ k F _ u v w z _ _ _ _. refl;
-  never_itself = λ k F _ u v _ _. refl;
-}
+purge_evenhanded = never_exchanging purge_meaning (λ F u v w. refl) (λ F u v w z. refl)
 
 pub intransitive_purge_evenhanded : Evenhanded intransitive_purge_meaning
-intransitive_purge_evenhanded = record {
-  exchange = purge_evenhanded.exchange;
-  after_exchange = purge_evenhanded.after_exchange;
-  never_itself = purge_evenhanded.never_itself;
-}
-
-eqb_turned : (v w : ℕ) → eqb v w ≡ eqb w v
-eqb_turned v w = grind (arith, nat_tests)
-
-and_turned : (x y : Bool) → (x && y) ≡ (y && x)
-and_turned true true = refl
-and_turned true false = refl
-and_turned false true = refl
-and_turned false false = refl
-
-both_turned : (F : Flow) (v w z : ℕ) → both F v w z ≡ both F w v z
-both_turned F v w z = and_turned (F v z) (F w z)
-
-and_swapped : (x y z : Bool) → (x && (y && z)) ≡ (y && (x && z))
-and_swapped true y z = refl
-and_swapped false true z = refl
-and_swapped false false z = refl
+intransitive_purge_evenhanded = never_exchanging intransitive_purge_meaning (λ F u v w. refl) (λ F u v w z. refl)
 
 pub transmitted_evenhanded : Evenhanded transmitted_meaning
 transmitted_evenhanded = record {
-  exchange = λ k F _ u v w _ _ _. rw (eqb_turned v w, both_turned F v w u, and_swapped (not (F v w)) (not (F w v)) _);
-  after_exchange = λ k F _ u v w z _ _ _ _. rw (both_turned F v w z);
+  exchange = λ k F _ u v w _ _ _. grind (arith, nat_tests);
+  after_exchange = λ k F _ u v w z _ _ _ _. grind arith;
   never_itself = λ k F _ u v _ _. rw (eq-eqb v v refl);
 }

@@ -14,6 +14,6 @@ pub faithful : {A : Type 0} (m : MeaningValue) (left : Flow → (ℕ → ℕ) �
     → ((k n : ℕ) (F : Flow) (owner : ℕ → ℕ) (u : ℕ) → Setting k n F owner u → (p q : List ℕ) → Below n p → Below n q → left F owner u p ≡ left F owner u q → Linked m n F owner u p q)
     → Faithful m
 faithful m left equal kept found = record {
-  linked = λ k n F owner u setting p q hp hq yes_alike. found k n F owner u setting p q hp hq ((equal F owner u p q).to yes_alike);
-  likened = λ k n F owner u setting p q hp hq chain. (equal F owner u p q).from (chain_keeps (left F owner u) (kept k n F owner u setting) chain hp);
+  linked = λ k n F owner u setting p q hp hq yes_alike. found k n F owner u setting p q hp hq ((equal F owner u p q).0 yes_alike);
+  likened = λ k n F owner u setting p q hp hq chain. (equal F owner u p q).1 (chain_keeps (left F owner u) (kept k n F owner u setting) chain hp);
 }

@@ -1,7 +1,9 @@
+-- The lemmas, from sequences and chains of links up to the laws of each of the three meanings.
 pub mod Sequences
 pub mod Chains
 pub mod Likeness
 pub mod Faithful
+pub mod Selecting
 pub mod Antitone
 pub mod Evenhanded
 pub mod Purging

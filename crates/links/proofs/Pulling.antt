@@ -7,7 +7,7 @@ use Rattle.links.specs.Transmitted.{Told}
 use Rattle.links.specs.Links.{drops, exchanges, Linked, done, there}
 use Rattle.links.specs.Laws.{Setting}
 use Rattle.links.specs.Three.{both, transmitted_meaning}
-use Rattle.links.proofs.Sequences.{Below, differ_by_test, all_given, all_map, all_with, none_passes, one_passes}
+use Rattle.links.proofs.Sequences.{Below, all_given, all_map, all_with, none_passes, one_passes}
 use Rattle.links.proofs.Chains.{joined}
 use Rattle.links.proofs.Telling.{hears_agrees, exchange_agrees}
 use Rattle.links.proofs.Turning.{onto, linked_onto, watched, all_watched, knows, knows_told, knows_untold}
@@ -44,7 +44,7 @@ module _ {k n : ℕ} {F : Flow} {owner : ℕ → ℕ} {u : ℕ} (setting : Setti
       let v = owner a in
       let w = owner b in
       let parts = all_watched (λ x. both F v w x ≡ false) owner u r apart in
-      let differ = ne_eqb v w (differ_by_test (F v) (setting.selves v (setting.owned a below)) ab) in
+      let differ = ne_eqb v w (λ same. let self = setting.selves v (setting.owned a below) in cc) in
       let after = all_map (λ c. not_from_false (both F v w (owner c))) r parts.1 in
       linked_onto t (there (exchanges a b r (rw (differ, ab, ba, parts.0)) after) done)
 

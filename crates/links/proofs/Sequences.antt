@@ -1,16 +1,11 @@
--- For facts of each element of a sequence, tests of numbers and of some element, and the test of equal sequences.
-use Rattle.std.proofs.Common.{◌≡◌, ℕ, ◌<◌, Bool, true, false, eqb, List, [], ◌∷◌, sym, refl, ap, ◌∙◌, ap₂, inl, inr}
-use Rattle.std.proofs.lemmas.Bool.{true≢false, false≢true, eqb-true, eq-eqb, and_parts, and_from, or_cases, or_parts}
-use Rattle.links.specs.Sequences.{All, some_of, same_sequence}
-use Rattle.links.specs.Equality.{Exactly}
-
--- a sequence of the commands below n
-abbrev pub Below : ℕ → List ℕ → Type 0
-Below n p = All (λ c. c < n) p
-
--- numbers that a test answers differently differ
-pub differ_by_test : (f : ℕ → Bool) {v w : ℕ} → f v ≡ true → f w ≡ false → v ≡ w → ⊥
-differ_by_test f passes fails same = true≢false (sym passes ∙ ap f same ∙ fails)
+-- For facts of each element of a sequence, and tests of numbers and of some element.
+use Rattle.std.proofs.Common.{◌≡◌, ℕ, Bool, true, false, List, [], ◌∷◌, inl, inr}
+use Rattle.std.proofs.lemmas.Bool.{false≢true, or_cases, or_parts}
+use Rattle.std.proofs.lemmas.List.Elements.{All-from_recursion}
+use Rattle.std.proofs.lemmas.List.Folds.{list_any_none}
+use Rattle.links.specs.Sequences.{All, some_of}
+-- for the crates above, which name it here
+pub use Rattle.links.specs.Sequences.{Below}
 
 pub all_given : {P : ℕ → Type 0} → ((x : ℕ) → P x) → (xs : List ℕ) → All P xs
 all_given f [] = tt
@@ -29,25 +24,9 @@ none_passes f [] e = tt
 none_passes f (x ∷ xs) e = let parts = or_parts (f x) (some_of f xs) e in (parts.0, none_passes f xs parts.1)
 
 pub all_fail : (f : ℕ → Bool) (xs : List ℕ) → All (λ x. f x ≡ false) xs → some_of f xs ≡ false
-all_fail f [] h = refl
-all_fail f (x ∷ xs) h = rw h.0 (all_fail f xs h.1)
+all_fail f xs h = list_any_none f xs (All-from_recursion (λ x. f x ≡ false) xs h)
 
 -- where some element passes, one does, and what holds of each holds of it
 pub one_passes : {P : ℕ → Type 0} (f : ℕ → Bool) (xs : List ℕ) → some_of f xs ≡ true → All P xs → (x : ℕ) × (f x ≡ true) × P x
 one_passes f [] e h = absurd (false≢true e)
 one_passes f (x ∷ xs) e h = elim (or_cases (f x) (some_of f xs) e) [ inl here ↦ (x, here, h.0) | inr on ↦ one_passes f xs on h.1 ]
-
-same_to_equal : (xs ys : List ℕ) → same_sequence xs ys ≡ true → xs ≡ ys
-same_to_equal [] [] e = refl
-same_to_equal [] (y ∷ ys) e = absurd (false≢true e)
-same_to_equal (x ∷ xs) [] e = absurd (false≢true e)
-same_to_equal (x ∷ xs) (y ∷ ys) e =
-    let parts = and_parts (eqb x y) (same_sequence xs ys) e in
-    ap₂ (λ z zs. z ∷ zs) (eqb-true x y parts.0) (same_to_equal xs ys parts.1)
-
-same_as_itself : (xs : List ℕ) → same_sequence xs xs ≡ true
-same_as_itself [] = refl
-same_as_itself (x ∷ xs) = and_from (eqb x x) (same_sequence xs xs) (eq-eqb x x refl) (same_as_itself xs)
-
-pub same_where_equal : (xs ys : List ℕ) → Exactly (same_sequence xs ys ≡ true) (xs ≡ ys)
-same_where_equal xs ys = record { to = same_to_equal xs ys; from = λ e. rw (← e) (same_as_itself xs) }

@@ -1,10 +1,9 @@
 -- For TA: what watched consoles know while a command is looked for in a turned sequence, and what it says of the consoles of the commands passed.
-use Rattle.std.proofs.Common.{◌≡◌, ℕ, ◌≤◌, Bool, true, false, List, ◌∷◌, sym, refl, ap, ◌∙◌, inl, inr, arith}
-use Rattle.std.proofs.lemmas.Bool.{both_ways, eq-eqb, ne_eqb, and_cases}
+use Rattle.std.proofs.Common.{◌≡◌, ℕ, ◌≤◌, true, false, List, ◌∷◌, sym, refl, ap, ◌∙◌, arith}
+use Rattle.std.proofs.lemmas.Bool.{both_ways, eq-eqb, ne_eqb, false_from_ne_true}
 use Rattle.theory.specs.Flows.{Flow}
 use Rattle.links.specs.Transmitted.{Told, told}
 use Rattle.links.specs.Three.{both}
-use Rattle.links.proofs.Sequences.{differ_by_test}
 use Rattle.links.proofs.Turning.{knows, knows_told, knows_untold}
 use Rattle.links.proofs.Counting.{counted, acts, spine, most, spine_most, spine_acts, most_acts, most_kept, most_giver}
 
@@ -39,48 +38,40 @@ module _ (F : Flow) (owner : ℕ → ℕ) where
     -- Let x be told of b and not of a, and y of a before b.
     module _ (x y : ℕ) (b_to_x : F (owner b) x ≡ true) (not_both : both F (owner a) (owner b) x ≡ false) (at_x : Shows F owner a side count x (knows F owner (b ∷ t) x)) (a_to_y : F (owner a) y ≡ true) (at_y : Shows F owner a side count y (knows F owner t y)) where
       a_to_x : F (owner a) x ≡ false
-      a_to_x = elim (and_cases (F (owner a) x) (F (owner b) x) not_both) [ inl e ↦ e | inr e ↦ absurd (both_ways (F (owner b) x) e b_to_x) ]
+      a_to_x = grind arith
 
       -- The giver of a does not affect that of b: else the latter had heard more commands of it than x may know.
       giver_unaffected : F (owner a) (owner b) ≡ false
-      giver_unaffected = go (F (owner a) (owner b)) refl
-        where
-          go : (e : Bool) → F (owner a) (owner b) ≡ e → e ≡ false
-          go true affects =
-              let w = owner a in
-              let seen = at_y.hit a_to_y in
-              absurd (omega (
-                arith,
-                at_x.miss a_to_x,
-                most_giver F owner w b t x b_to_x,
-                spine_most owner w (knows F owner t (owner b)),
-                spine_acts F owner w (owner b) affects t,
-                spine_acts F owner w y a_to_y t,
-                ap (spine owner w) seen.1,
-                seen.2,
-                ap counted (eq-eqb w w refl),
-              ))
-          go false _ = refl
+      giver_unaffected =
+          let w = owner a in
+          let seen = at_y.hit a_to_y in
+          false_from_ne_true (F w (owner b)) (λ affects. omega (
+            arith,
+            at_x.miss a_to_x,
+            most_giver F owner w b t x b_to_x,
+            spine_most owner w (knows F owner t (owner b)),
+            spine_acts F owner w (owner b) affects t,
+            spine_acts F owner w y a_to_y t,
+            ap (spine owner w) seen.1,
+            seen.2,
+            ap counted (eq-eqb w w refl),
+          ))
 
       -- Nor the other way round: else the giver of a had heard b as well, and so one command more than there are before b.
       giver_not_affecting : F (owner b) (owner a) ≡ false
-      giver_not_affecting = go (F (owner b) (owner a)) refl
-        where
-          go : (e : Bool) → F (owner b) (owner a) ≡ e → e ≡ false
-          go true affects =
-              let v = owner b in
-              let seen = at_y.hit a_to_y in
-              absurd (omega (
-                arith,
-                at_x.low v (differ_by_test (λ c. F c x) b_to_x a_to_x) affects,
-                spine_most owner v (knows F owner (b ∷ t) x),
-                spine_acts F owner v x b_to_x (b ∷ t),
-                ap counted (eq-eqb v v refl),
-                spine_most owner v side,
-                ap (most owner v) seen.1,
-                most_acts F owner v y t,
-              ))
-          go false _ = refl
+      giver_not_affecting =
+          let v = owner b in
+          let seen = at_y.hit a_to_y in
+          false_from_ne_true (F v (owner a)) (λ affects. omega (
+            arith,
+            at_x.low v (λ same. cc) affects,
+            spine_most owner v (knows F owner (b ∷ t) x),
+            spine_acts F owner v x b_to_x (b ∷ t),
+            ap counted (eq-eqb v v refl),
+            spine_most owner v side,
+            ap (most owner v) seen.1,
+            most_acts F owner v y t,
+          ))
 
       -- And the giver of b shows a, since x was told what it knew.
       pub giver_shows : (F (owner a) (owner b) ≡ false) × (F (owner b) (owner a) ≡ false) × Shows F owner a side count (owner b) (knows F owner t (owner b))

@@ -1,16 +1,15 @@
--- For IP: a link keeps the sources and what the intransitive purge leaves, and a chain leads from a sequence to what is left of it.
-use Rattle.std.proofs.Common.{◌≡◌, ℕ, ◌<◌, Bool, true, false, cond, eqb, List, [], ◌∷◌, refl, ap, ◌∙◌, ap₂}
-use Rattle.std.proofs.lemmas.Bool.{false≢true, not-true, not_from_false, eq-eqb, ne_eqb, or_left, cond-false, cond_both}
+-- For IP: a link keeps the sources, and the intransitive purge selects the commands whose consoles may affect one.
+use Rattle.std.proofs.Common.{◌≡◌, ℕ, ◌<◌, Bool, true, false, cond, eqb, List, [], ◌∷◌, refl, ap, inl, inr}
+use Rattle.std.proofs.lemmas.Bool.{false≢true, not-true, not_from_false, eq-eqb, ne_eqb, or_left, cond-false, cond_both, cases_Bool}
 use Rattle.theory.specs.Flows.{Flow}
 use Rattle.links.specs.Sequences.{All, some_of}
 use Rattle.links.specs.Sources.{sources, intransitive_purge}
-use Rattle.links.specs.Links.{Link, drops, exchanges, later, Linked, done, there}
-use Rattle.links.specs.Laws.{Setting, Faithful, MeaningLaws}
+use Rattle.links.specs.Links.{Link, drops, exchanges, later}
+use Rattle.links.specs.Laws.{Setting, MeaningLaws}
 use Rattle.links.specs.Three.{intransitive_purge_meaning}
-use Rattle.links.proofs.Sequences.{Below, differ_by_test, all_map, none_passes, all_fail}
-use Rattle.links.proofs.Chains.{joined, linked_later, linked_through}
+use Rattle.links.proofs.Sequences.{Below, all_map, none_passes, all_fail}
 use Rattle.links.proofs.Likeness.{intransitive_purge_alike}
-use Rattle.links.proofs.Faithful.{faithful}
+use Rattle.links.proofs.Selecting.{Selects, selecting_faithful}
 use Rattle.links.proofs.Antitone.{laws, intransitive_purge_questions}
 use Rattle.links.proofs.Evenhanded.{intransitive_purge_evenhanded}
 
@@ -19,7 +18,7 @@ use Rattle.links.proofs.Evenhanded.{intransitive_purge_evenhanded}
 added_where_affecting : (F : Flow) (w : ℕ) → F w w ≡ true → (s : List ℕ) (b : Bool) → some_of (F w) s ≡ b → some_of (eqb w) (cond b (w ∷ s) s) ≡ b
 added_where_affecting F w self s true e = or_left (eqb w w) (some_of (eqb w) s) (eq-eqb w w refl)
 added_where_affecting F w self s false e =
-    all_fail (eqb w) s (all_map (λ x unaffected. ne_eqb w x (differ_by_test (F w) self unaffected)) s (none_passes (F w) s e))
+    all_fail (eqb w) s (all_map (λ x unaffected. ne_eqb w x (λ same. cc)) s (none_passes (F w) s e))
 
 module _ {k n : ℕ} {F : Flow} {owner : ℕ → ℕ} {u : ℕ} (setting : Setting k n F owner u) where
   -- a command is kept where its console may affect a source of what follows
@@ -41,29 +40,13 @@ module _ {k n : ℕ} {F : Flow} {owner : ℕ → ℕ} {u : ℕ} (setting : Setti
   all_from_sources : (P : ℕ → Type 0) (r : List ℕ) → Below n r → All P (sources F owner u r) → P u × All (λ c. P (owner c)) (intransitive_purge F owner u r)
   all_from_sources P [] below h = (h.0, tt)
   all_from_sources P (a ∷ r) below h =
-      rw (purge_step a r below.0) (go (some_of (F (owner a)) (sources F owner u r)) (all_from_sources P r below.1) h)
-    where
-      left : List ℕ
-      left = intransitive_purge F owner u r
-
-      go : (b : Bool) → (All P (sources F owner u r) → P u × All (λ c. P (owner c)) left) → All P (cond b (owner a ∷ sources F owner u r) (sources F owner u r)) → P u × All (λ c. P (owner c)) (cond b (a ∷ left) left)
-      go true on h = let rest = on h.1 in (rest.0, (h.0, rest.1))
-      go false on h = on h
-
-  purges : (p : List ℕ) → Below n p → Linked intransitive_purge_meaning n F owner u p (intransitive_purge F owner u p)
-  purges [] below = done
-  purges (a ∷ r) below =
-      let w = owner a in
-      let s = sources F owner u r in
-      let left = intransitive_purge F owner u r in
-      let on = linked_later a (purges r below.1) in
-      rw (purge_step a r below.0)
-      (cond_both (some_of (F w) s) (a ∷ left) left (Linked intransitive_purge_meaning n F owner u (a ∷ r))
-      (λ e. on)
-      (λ e.
-      let unaffected = all_from_sources (λ x. F w x ≡ false) r below.1 (none_passes (F w) s e) in
-      let dropped = drops a left below.0 (not_from_false (F w u) unaffected.0) (all_map (λ c. not_from_false (F w (owner c))) left unaffected.1) in
-      joined on (there dropped done)))
+      elim (cases_Bool (some_of (F (owner a)) (sources F owner u r))) [
+        | inl kept ↦
+            let here = rw kept at h in
+            let rest = all_from_sources P r below.1 here.1 in
+            rw (purge_step a r below.0, kept) (rest.0, (here.0, rest.1))
+        | inr unkept ↦ rw (purge_step a r below.0, unkept) (all_from_sources P r below.1 (rw unkept at h))
+      ]
 
   -- a console of which a command may be dropped affects no source of what follows
   affects_no_source : (w : ℕ) (r : List ℕ) → intransitive_purge_meaning.drop F u w ≡ true → All (λ c. intransitive_purge_meaning.after_drop F u w (owner c) ≡ true) r → some_of (F w) (sources F owner u r) ≡ false
@@ -77,18 +60,23 @@ module _ {k n : ℕ} {F : Flow} {owner : ℕ → ℕ} {u : ℕ} (setting : Setti
   link_keeps_sources (exchanges a b r never _) = absurd (false≢true never)
   link_keeps_sources (later c l) = ap (λ s. cond (some_of (F (owner c)) s) (owner c ∷ s) s) (link_keeps_sources l)
 
-  link_keeps_purge : {p q : List ℕ} → Link intransitive_purge_meaning n F owner u p q → intransitive_purge F owner u p ≡ intransitive_purge F owner u q
-  link_keeps_purge (drops a r below dropped after) =
-      purge_step a r below ∙ cond-false (some_of (F (owner a)) (sources F owner u r)) _ _ (affects_no_source (owner a) r dropped after)
-  link_keeps_purge (exchanges a b r never _) = absurd (false≢true never)
-  link_keeps_purge (later c l) =
-      ap₂ (λ s left. cond (some_of (eqb (owner c)) (cond (some_of (F (owner c)) s) (owner c ∷ s) s)) (c ∷ left) left) (link_keeps_sources l) (link_keeps_purge l)
-
-intransitive_purge_faithful : Faithful intransitive_purge_meaning
-intransitive_purge_faithful =
-    faithful intransitive_purge_meaning intransitive_purge intransitive_purge_alike
-    (λ k n F owner u setting p q hp hq l. link_keeps_purge setting l)
-    (λ k n F owner u setting p q hp hq e. linked_through (purges setting p hp) (purges setting q hq) e)
+  selects : Selects intransitive_purge_meaning n F owner u (λ a r. some_of (F (owner a)) (sources F owner u r)) (intransitive_purge F owner u)
+  selects = record {
+    empty = refl;
+    step = purge_step;
+    never = λ v w. refl;
+    same = λ a l. ap (some_of (F (owner a))) (link_keeps_sources l);
+    unkept = λ a r. affects_no_source (owner a) r;
+    droppable = λ a r below e.
+        let unaffected = all_from_sources (λ x. F (owner a) x ≡ false) r below (none_passes (F (owner a)) (sources F owner u r) e) in (
+          not_from_false (F (owner a) u) unaffected.0,
+          all_map (λ c. not_from_false (F (owner a) (owner c))) (intransitive_purge F owner u r) unaffected.1,
+        );
+  }
 
 pub intransitive_purge_laws : MeaningLaws intransitive_purge_meaning
-intransitive_purge_laws = laws intransitive_purge_faithful intransitive_purge_questions intransitive_purge_evenhanded
+intransitive_purge_laws =
+    laws
+    (selecting_faithful intransitive_purge_meaning intransitive_purge (λ F owner u a r. some_of (F (owner a)) (sources F owner u r)) intransitive_purge_alike (λ k n F owner u setting. selects setting))
+    intransitive_purge_questions
+    intransitive_purge_evenhanded

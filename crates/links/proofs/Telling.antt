@@ -1,6 +1,7 @@
 -- For TA: how what consoles know runs through a sequence, and that a link keeps what the console was told.
-use Rattle.std.proofs.Common.{◌≡◌, ℕ, Bool, true, false, cond, not, ◌&&◌, eqb, List, [], ◌∷◌, ◌++◌, refl, ap₂}
-use Rattle.std.proofs.lemmas.Bool.{true≢false, not-true, and_parts, cond-false}
+use Rattle.std.proofs.Common.{◌≡◌, ℕ, true, false, cond, not, List, [], ◌∷◌, refl, ap, ap₂, arith}
+use Rattle.std.proofs.lemmas.Bool.{not-true, cond-false}
+use Rattle.std.proofs.lemmas.List.Sums.{fold_push}
 use Rattle.theory.specs.Flows.{Flow}
 use Rattle.links.specs.Sequences.{All}
 use Rattle.links.specs.Transmitted.{Told, nothing, told, hears, hears_all}
@@ -10,11 +11,6 @@ use Rattle.links.specs.Growth.{TaGrows}
 use Rattle.links.proofs.Sequences.{all_map}
 
 module _ (F : Flow) (owner : ℕ → ℕ) where
-  -- a sequence after another goes on from what the first left
-  hears_after : (f : ℕ → Told) (r s : List ℕ) (u : ℕ) → hears_all F owner f (r ++ s) u ≡ hears_all F owner (hears_all F owner f r) s u
-  hears_after f [] s u = refl
-  hears_after f (a ∷ r) s u = hears_after (hears F owner f a) r s u
-
   -- a command keeps agreement where the console and the giver have it
   pub hears_agrees : (f g : ℕ → Told) (a z : ℕ) → f z ≡ g z → f (owner a) ≡ g (owner a) → hears F owner f a z ≡ hears F owner g a z
   hears_agrees f g a z at-z at-giver = ap₂ (λ x y. cond (F (owner a) z) (told x y a) x) at-z at-giver
@@ -27,21 +23,11 @@ module _ (F : Flow) (owner : ℕ → ℕ) where
 
   -- Neighbours may be exchanged where neither giver may affect the other and not both may affect the console.
   pub exchange_agrees : (f : ℕ → Told) (a b z : ℕ) → F (owner a) (owner b) ≡ false → F (owner b) (owner a) ≡ false → both F (owner a) (owner b) z ≡ false → hears F owner (hears F owner f a) b z ≡ hears F owner (hears F owner f b) a z
-  exchange_agrees f a b z ab ba not_both = rw (ab, ba) (go (F (owner a) z) (F (owner b) z) not_both)
-    where
-      go : (x y : Bool) → (x && y) ≡ false → cond y (told (cond x (told (f z) (f (owner a)) a) (f z)) (f (owner b)) b) (cond x (told (f z) (f (owner a)) a) (f z)) ≡ cond x (told (cond y (told (f z) (f (owner b)) b) (f z)) (f (owner a)) a) (cond y (told (f z) (f (owner b)) b) (f z))
-      go true true e = absurd (true≢false e)
-      go true false e = refl
-      go false true e = refl
-      go false false e = refl
+  exchange_agrees f a b z ab ba not_both = grind arith
 
   -- what a yes to the exchange question says
   exchange_parts : (u v w : ℕ) → transmitted_meaning.exchange F u v w ≡ true → (F v w ≡ false) × (F w v ≡ false) × (both F v w u ≡ false)
-  exchange_parts u v w e =
-      let others = (and_parts (not (eqb v w)) _ e).1 in
-      let there = and_parts (not (F v w)) _ others in
-      let back = and_parts (not (F w v)) _ there.1 in
-      (not-true (F v w) there.0, not-true (F w v) back.0, not-true (both F v w u) back.1)
+  exchange_parts u v w e = (grind arith, grind arith, grind arith)
 
   -- so a link keeps what the console is told, whatever each console knew before
   pub link_keeps_told : {n u : ℕ} {p q : List ℕ} → Link transmitted_meaning n F owner u p q → (f : ℕ → Told) → hears_all F owner f p u ≡ hears_all F owner f q u
@@ -58,4 +44,4 @@ module _ (F : Flow) (owner : ℕ → ℕ) where
   link_keeps_told (later c l) f = link_keeps_told l (hears F owner f c)
 
 pub ta_grows : TaGrows
-ta_grows F owner u r a = (refl, hears_after F owner (λ _. nothing) r (a ∷ []) u)
+ta_grows F owner u r a = (refl, ap (λ knows. knows u) (fold_push (hears F owner) (λ _. nothing) r a))

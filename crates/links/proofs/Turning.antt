@@ -1,6 +1,6 @@
 -- For TA read from the last command back: what consoles know after a turned sequence, whose last command stands first.
 use Rattle.std.proofs.Common.{◌≡◌, ℕ, true, false, List, [], ◌∷◌, ◌++◌, refl, ap, ◌∙◌, append-nil}
-use Rattle.std.proofs.lemmas.Bool.{cond-true, cond-false}
+use Rattle.std.proofs.lemmas.Bool.{cond-true, cond-false, cond_both}
 use Rattle.theory.specs.Flows.{Flow}
 use Rattle.links.specs.Sequences.{All}
 use Rattle.links.specs.Transmitted.{Told, nothing, told, hears, hears_all, ta}
@@ -9,7 +9,7 @@ use Rattle.links.specs.Links.{Linked}
 use Rattle.links.proofs.Sequences.{Below}
 use Rattle.links.proofs.Chains.{linked_later}
 
--- a turned sequence put back in front of another
+-- a turned sequence put back in front of another; std's reverse_aux is the same, but each lemma would have to unfold it by name
 abbrev pub onto : List ℕ → List ℕ → List ℕ
 onto [] r = r
 onto (a ∷ s) r = onto s (a ∷ r)
@@ -51,6 +51,10 @@ module _ (F : Flow) (owner : ℕ → ℕ) where
 
   pub turned_ta : (p : List ℕ) (u : ℕ) → knows F owner (onto p []) u ≡ ta F owner u p
   turned_ta p u = knows_ta (onto p []) [] u ∙ ap (ta F owner u) (turned_back p)
+
+  -- what holds of a console that hears one more command, and of one that does not
+  pub one_more : (b : ℕ) (s : List ℕ) (x : ℕ) (P : Told → Type 0) → (F (owner b) x ≡ true → P (told (knows F owner s x) (knows F owner s (owner b)) b)) → (F (owner b) x ≡ false → P (knows F owner s x)) → P (knows F owner (b ∷ s) x)
+  one_more b s x = cond_both (F (owner b) x) (told (knows F owner s x) (knows F owner s (owner b)) b) (knows F owner s x)
 
   pub knows_told : (b : ℕ) (s : List ℕ) (x : ℕ) → F (owner b) x ≡ true → knows F owner (b ∷ s) x ≡ told (knows F owner s x) (knows F owner s (owner b)) b
   knows_told b s x e = cond-true (F (owner b) x) _ _ e

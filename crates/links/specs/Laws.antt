@@ -1,7 +1,7 @@
 -- The laws that every meaning owes.
 use Rattle.std.specs.Prelude.{◌≡◌, ℕ, ◌<◌, true, false, List}
 use Rattle.theory.specs.Flows.{Flow, SelfFlows}
-use Rattle.links.specs.Sequences.{All}
+use Rattle.links.specs.Sequences.{Below}
 use Rattle.links.specs.Meaning.{MeaningValue}
 use Rattle.links.specs.Links.{Linked}
 
@@ -18,16 +18,23 @@ Fewer F G = (u v : ℕ) → F u v ≡ true → G u v ≡ true
 
 -- alike are just the sequences that a chain of links joins
 pub record Faithful (m : MeaningValue) : Type 0 where
-  pub linked : (k n : ℕ) (F : Flow) (owner : ℕ → ℕ) (u : ℕ) → Setting k n F owner u → (p q : List ℕ) → All (λ c. c < n) p → All (λ c. c < n) q → m.alike F owner u p q ≡ true → Linked m n F owner u p q
-  pub likened : (k n : ℕ) (F : Flow) (owner : ℕ → ℕ) (u : ℕ) → Setting k n F owner u → (p q : List ℕ) → All (λ c. c < n) p → All (λ c. c < n) q → Linked m n F owner u p q → m.alike F owner u p q ≡ true
+  pub linked : (k n : ℕ) (F : Flow) (owner : ℕ → ℕ) (u : ℕ)
+      → Setting k n F owner u → (p q : List ℕ) → Below n p → Below n q → m.alike F owner u p q ≡ true → Linked m n F owner u p q
+  pub likened : (k n : ℕ) (F : Flow) (owner : ℕ → ℕ) (u : ℕ)
+      → Setting k n F owner u → (p q : List ℕ) → Below n p → Below n q → Linked m n F owner u p q → m.alike F owner u p q ≡ true
 
 -- taking flows away turns no yes into a no
 pub record Antitone (m : MeaningValue) : Type 0 where
-  pub alike : (k n : ℕ) (F G : Flow) (owner : ℕ → ℕ) (u : ℕ) → Setting k n F owner u → Setting k n G owner u → Fewer F G → (p q : List ℕ) → All (λ c. c < n) p → All (λ c. c < n) q → m.alike G owner u p q ≡ true → m.alike F owner u p q ≡ true
-  pub drop : (k : ℕ) (F G : Flow) → SelfFlows k F → SelfFlows k G → Fewer F G → (u v : ℕ) → u < k → v < k → m.drop G u v ≡ true → m.drop F u v ≡ true
-  pub after_drop : (k : ℕ) (F G : Flow) → SelfFlows k F → SelfFlows k G → Fewer F G → (u v z : ℕ) → u < k → v < k → z < k → m.after_drop G u v z ≡ true → m.after_drop F u v z ≡ true
-  pub exchange : (k : ℕ) (F G : Flow) → SelfFlows k F → SelfFlows k G → Fewer F G → (u v w : ℕ) → u < k → v < k → w < k → m.exchange G u v w ≡ true → m.exchange F u v w ≡ true
-  pub after_exchange : (k : ℕ) (F G : Flow) → SelfFlows k F → SelfFlows k G → Fewer F G → (u v w z : ℕ) → u < k → v < k → w < k → z < k → m.after_exchange G u v w z ≡ true → m.after_exchange F u v w z ≡ true
+  pub alike : (k n : ℕ) (F G : Flow) (owner : ℕ → ℕ) (u : ℕ)
+      → Setting k n F owner u → Setting k n G owner u → Fewer F G → (p q : List ℕ) → Below n p → Below n q → m.alike G owner u p q ≡ true → m.alike F owner u p q ≡ true
+  pub drop : (k : ℕ) (F G : Flow) → SelfFlows k F → SelfFlows k G → Fewer F G
+      → (u v : ℕ) → u < k → v < k → m.drop G u v ≡ true → m.drop F u v ≡ true
+  pub after_drop : (k : ℕ) (F G : Flow) → SelfFlows k F → SelfFlows k G → Fewer F G
+      → (u v z : ℕ) → u < k → v < k → z < k → m.after_drop G u v z ≡ true → m.after_drop F u v z ≡ true
+  pub exchange : (k : ℕ) (F G : Flow) → SelfFlows k F → SelfFlows k G → Fewer F G
+      → (u v w : ℕ) → u < k → v < k → w < k → m.exchange G u v w ≡ true → m.exchange F u v w ≡ true
+  pub after_exchange : (k : ℕ) (F G : Flow) → SelfFlows k F → SelfFlows k G → Fewer F G
+      → (u v w z : ℕ) → u < k → v < k → w < k → z < k → m.after_exchange G u v w z ≡ true → m.after_exchange F u v w z ≡ true
 
 -- the exchange questions do not care which of the two consoles is named first, and a console
 -- is never exchanged with itself

@@ -1,3 +1,4 @@
+-- What a meaning is, its laws, and the three meanings.
 pub mod Sequences
 pub mod Purge
 pub mod Sources

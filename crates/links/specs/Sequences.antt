@@ -1,18 +1,12 @@
--- Tests and facts over the elements of a sequence, and equality of sequences as a test.
-use Rattle.std.specs.Prelude.{ℕ, Bool, true, false, ◌&&◌, ◌||◌, List, [], ◌∷◌, ◌==◌}
+-- Words of std on the elements of a sequence, and equality of sequences as a test.
+use Rattle.std.specs.Prelude.{ℕ, ◌<◌, Bool, List, nat_eq}
+use Rattle.std.specs.Cmp.Lexicographic.{pointwise}
+-- std has `All` by index too, but a link is taken apart one command at a time
+pub use Rattle.std.specs.List.{AllByRecursion as All, list_any as some_of}
 
--- P holds of each element
-abbrev pub All : (ℕ → Type 0) → List ℕ → Type 0
-All P [] = Unit {0}
-All P (x ∷ xs) = P x × All P xs
-
--- the test holds of some element
-abbrev pub some_of : (ℕ → Bool) → List ℕ → Bool
-some_of f [] = false
-some_of f (x ∷ xs) = f x || some_of f xs
+-- a sequence of the commands below n
+abbrev pub Below : ℕ → List ℕ → Type 0
+Below n p = All (λ c. c < n) p
 
 abbrev pub same_sequence : List ℕ → List ℕ → Bool
-same_sequence [] [] = true
-same_sequence [] (y ∷ ys) = false
-same_sequence (x ∷ xs) [] = false
-same_sequence (x ∷ xs) (y ∷ ys) = x == y && same_sequence xs ys
+same_sequence p q = pointwise nat_eq p q

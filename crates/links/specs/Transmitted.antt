@@ -1,5 +1,6 @@
 -- TA, the order-aware meaning: what a console may have been told of a sequence, and in which order.
-use Rattle.std.specs.Prelude.{ℕ, Bool, true, false, cond, ◌&&◌, List, [], ◌∷◌, ◌==◌}
+use Rattle.std.specs.Prelude.{ℕ, Bool, true, false, cond, ◌&&◌, List, ◌==◌}
+use Rattle.std.specs.List.{fold}
 use Rattle.theory.specs.Flows.{Flow}
 
 -- nothing yet; or what the console knew before, what the giver of a command knew, and the command
@@ -14,8 +15,7 @@ hears F owner knows a u = cond (F (owner a) u) (told (knows u) (knows (owner a))
 
 -- what each console knows after a sequence, from what each knew before it
 abbrev pub hears_all : Flow → (ℕ → ℕ) → (ℕ → Told) → List ℕ → (ℕ → Told)
-hears_all F owner knows [] = knows
-hears_all F owner knows (a ∷ r) = hears_all F owner (hears F owner knows a) r
+hears_all F owner knows p = fold (hears F owner) knows p
 
 -- The field's ta: at first no console knows anything. How it grows with the last command of a
 -- sequence is said by `TaGrows`.

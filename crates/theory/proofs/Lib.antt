@@ -1,3 +1,4 @@
+-- The lemmas: what a loop over a sequence needs, and the theorems on runs.
 pub mod Passing
-pub mod Joining
+pub mod Unlocked
 pub mod Apart

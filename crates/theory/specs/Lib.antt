@@ -1,3 +1,4 @@
+-- Limits, flows and lockouts, boards, controls, and where sequences lead.
 pub mod Limits
 pub mod Reading
 pub mod Flows

@@ -6,22 +6,18 @@ ghost use Rattle.theory.specs.Theorems.{RunsJoin, LockedCommandsMoveNothing, Sid
 pub mod limits;
 
 // A sequence followed by another leads where the other leads from the end of the first.
-pub fn runs_join() -> bool
+pub fn runs_join()
     ensures { RunsJoin }
-{
-    true
-}
+{}
 
 // A sequence leads where it leads without its locked commands.
-pub fn locked_commands_move_nothing() -> bool
+#[tactic(auto, using(crate::proofs::Unlocked::locked_move_nothing))]
+pub fn locked_commands_move_nothing()
     ensures { LockedCommandsMoveNothing }
-{
-    true
-}
+{}
 
 // Of two controls side by side each goes where its own commands lead it.
-pub fn sides_run_apart<D>() -> bool
+#[tactic(auto, using(crate::proofs::Apart::sides_run_apart))]
+pub fn sides_run_apart<D>()
     ensures { SidesRunApart D }
-{
-    true
-}
+{}

@@ -1,5 +1,0 @@
-use Rattle.theory.proofs.Joining.{runs_join}
-use Rattle.theory.proofs.runs_join.Goals as goal
-
-pub returns : goal.returns
-returns c = runs_join
