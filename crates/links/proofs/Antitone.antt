@@ -1,12 +1,10 @@
 -- For flows taken away: a yes to a question of the three meanings stays, and so does a yes to `alike` of any faithful meaning.
-use Rattle.std.proofs.Common.{◌≡◌, ℕ, true, not, List, refl, arith}
+use Rattle.std.proofs.Common.{◌≡◌, ℕ, true, not, refl, arith}
 use Rattle.theory.specs.Flows.{Flow}
 use Rattle.links.specs.Meaning.{MeaningValue}
-use Rattle.links.specs.Links.{Link, drops, exchanges, later, Linked, done, there, back}
-use Rattle.links.specs.Laws.{Setting, Fewer, Faithful, Antitone, Evenhanded, MeaningLaws}
+use Rattle.links.specs.Laws.{Fewer, Faithful, Antitone, Evenhanded, MeaningLaws}
 use Rattle.links.specs.Three.{purge_meaning, intransitive_purge_meaning, transmitted_meaning}
-use Rattle.links.proofs.Sequences.{Below, all_with}
-use Rattle.links.proofs.Chains.{there_within, back_within}
+use Rattle.links.proofs.Carrying.{alike_carried}
 
 -- m with an `alike` that always says yes, so that being antitone speaks of its questions alone
 abbrev pub questions_of : MeaningValue → MeaningValue
@@ -18,32 +16,19 @@ questions_of m = record {
   after_exchange = m.after_exchange;
 }
 
-module _ {m : MeaningValue} {k n : ℕ} {F G : Flow} {owner : ℕ → ℕ} {u : ℕ} (questions : Antitone (questions_of m)) (fewer : Setting k n F owner u) (more : Setting k n G owner u) (within : Fewer F G) where
-  link_under_fewer : {p q : List ℕ} → Link m n G owner u p q → Below n p → Link m n F owner u p q
-  link_under_fewer (drops a r below dropped after) h =
-      let v_there = fewer.owned a below in
-      drops a r below
-      (questions.drop k F G fewer.selves more.selves within u (owner a) fewer.there v_there dropped)
-      (all_with (λ c c_below. questions.after_drop k F G fewer.selves more.selves within u (owner a) (owner c) fewer.there v_there (fewer.owned c c_below)) r h.1 after)
-  link_under_fewer (exchanges a b r exchanged after) h =
-      let v_there = fewer.owned a h.0 in
-      let w_there = fewer.owned b h.1.0 in
-      exchanges a b r
-      (questions.exchange k F G fewer.selves more.selves within u (owner a) (owner b) fewer.there v_there w_there exchanged)
-      (all_with (λ c c_below. questions.after_exchange k F G fewer.selves more.selves within u (owner a) (owner b) (owner c) fewer.there v_there w_there (fewer.owned c c_below)) r h.1.1 after)
-  link_under_fewer (later c l) h = later c (link_under_fewer l h.1)
-
-  linked_under_fewer : {p q : List ℕ} → Linked m n G owner u p q → Below n p → Linked m n F owner u p q
-  linked_under_fewer done h = done
-  linked_under_fewer (there l c) h = there (link_under_fewer l h) (linked_under_fewer c (there_within l h))
-  linked_under_fewer (back l c) h = let g = back_within l h in back (link_under_fewer l g) (linked_under_fewer c g)
-
--- every link under more flows is one under fewer, so the link theorem hands `alike` down
+-- every link under more flows is one under fewer, and so `alike` is antitone too
 antitone : {m : MeaningValue} → Faithful m → Antitone (questions_of m) → Antitone m
 antitone faith questions = record {
-  alike = λ k n F G owner u fewer more within p q hp hq yes_alike.
-      faith.likened k n F owner u fewer p q hp hq
-      (linked_under_fewer questions fewer more within (faith.linked k n G owner u more p q hp hq yes_alike) hp);
+  alike = λ k n F G owner u fewer more within. alike_carried faith more fewer (record {
+    drop = λ a ha.
+        questions.drop k F G fewer.selves more.selves within u (owner a) fewer.there (fewer.owned a ha);
+    after_drop = λ a c ha hc.
+        questions.after_drop k F G fewer.selves more.selves within u (owner a) (owner c) fewer.there (fewer.owned a ha) (fewer.owned c hc);
+    exchange = λ a b ha hb.
+        questions.exchange k F G fewer.selves more.selves within u (owner a) (owner b) fewer.there (fewer.owned a ha) (fewer.owned b hb);
+    after_exchange = λ a b c ha hb hc.
+        questions.after_exchange k F G fewer.selves more.selves within u (owner a) (owner b) (owner c) fewer.there (fewer.owned a ha) (fewer.owned b hb) (fewer.owned c hc);
+  });
   drop = questions.drop;
   after_drop = questions.after_drop;
   exchange = questions.exchange;

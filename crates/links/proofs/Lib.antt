@@ -4,6 +4,7 @@ pub mod Chains
 pub mod Likeness
 pub mod Faithful
 pub mod Selecting
+pub mod Carrying
 pub mod Antitone
 pub mod Evenhanded
 pub mod Purging
