@@ -1,5 +1,7 @@
 -- For TA read from the last command back: what consoles know after a turned sequence, whose last command stands first.
 use Rattle.std.proofs.Common.{◌≡◌, ℕ, true, false, List, [], ◌∷◌, ◌++◌, refl, ap, ◌∙◌, append-nil}
+use mathlib.Core.List.{reverse_aux}
+use Rattle.std.proofs.lemmas.List.{reverse-reverse}
 use Rattle.std.proofs.lemmas.Bool.{cond-true, cond-false, cond_both}
 use Rattle.theory.specs.Flows.{Flow}
 use Rattle.links.specs.Sequences.{All}
@@ -9,18 +11,13 @@ use Rattle.links.specs.Links.{Linked}
 use Rattle.links.proofs.Sequences.{Below}
 use Rattle.links.proofs.Chains.{linked_later}
 
--- a turned sequence put back in front of another; std's reverse_aux is the same, but each lemma would have to unfold it by name
+-- a turned sequence put back in front of another
 abbrev pub onto : List ℕ → List ℕ → List ℕ
-onto [] r = r
-onto (a ∷ s) r = onto s (a ∷ r)
-
-onto_twice : (p s r : List ℕ) → onto (onto p s) r ≡ onto s (p ++ r)
-onto_twice [] s r = refl
-onto_twice (a ∷ p) s r = onto_twice p (a ∷ s) r
+onto s r = reverse_aux s r
 
 -- a sequence turned twice is itself
 pub turned_back : (p : List ℕ) → onto (onto p []) [] ≡ p
-turned_back p = onto_twice p [] [] ∙ append-nil p
+turned_back p = reverse-reverse p
 
 pub below_onto : (n : ℕ) (s r : List ℕ) → Below n s → Below n r → Below n (onto s r)
 below_onto n [] r hs hr = hr
