@@ -1,5 +1,5 @@
 -- For TA: how many commands of a console d stand in a sequence and in what a console was told of it.
-use Rattle.std.proofs.Common.{◌≡◌, ℕ, ◌+◌, ◌≤◌, max, Bool, true, false, eqb, List, [], ◌∷◌, refl, arith}
+use Rattle.std.proofs.Common.{◌≡◌, ℕ, ◌+◌, ◌≤◌, max, Bool, true, cond, eqb, List, [], ◌∷◌, refl, arith}
 use Rattle.std.proofs.lemmas.Bool.{ne_eqb}
 use Rattle.theory.specs.Flows.{Flow}
 use Rattle.links.specs.Transmitted.{Told, nothing, told}
@@ -7,8 +7,7 @@ use Rattle.links.proofs.Turning.{knows, one_more}
 
 -- how much a test adds to a count
 abbrev pub counted : Bool → ℕ
-counted true = 1
-counted false = 0
+counted test = cond test 1 0
 
 -- the commands of d in a sequence; the sum that std's count_by is does not compute one command on, as omega needs here
 abbrev pub acts : (ℕ → ℕ) → ℕ → List ℕ → ℕ

@@ -1,5 +1,5 @@
 -- For TA read from the last command back: what consoles know after a turned sequence, whose last command stands first.
-use Rattle.std.proofs.Common.{◌≡◌, ℕ, true, false, List, [], ◌∷◌, ◌++◌, refl, ap, ◌∙◌, append-nil}
+use Rattle.std.proofs.Common.{◌≡◌, ℕ, true, false, List, [], ◌∷◌, ◌++◌, map, refl, ap, ◌∙◌}
 use mathlib.Core.List.{reverse_aux}
 use Rattle.std.proofs.lemmas.List.{reverse-reverse}
 use Rattle.std.proofs.lemmas.Bool.{cond-true, cond-false, cond_both}
@@ -29,8 +29,7 @@ linked_onto (a ∷ s) c = linked_onto s (linked_later a c)
 
 -- the consoles whose knowledge counts where r is still to come: u and the givers in r
 abbrev pub watched : (ℕ → ℕ) → ℕ → List ℕ → List ℕ
-watched owner u [] = u ∷ []
-watched owner u (c ∷ r) = owner c ∷ watched owner u r
+watched owner u r = map owner r ++ (u ∷ [])
 
 pub all_watched : (P : ℕ → Type 0) (owner : ℕ → ℕ) (u : ℕ) (r : List ℕ) → All P (watched owner u r) → P u × All (λ c. P (owner c)) r
 all_watched P owner u [] h = (h.0, tt)
