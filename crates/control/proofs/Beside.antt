@@ -1,73 +1,77 @@
 -- What a pair that fits answers, from what its sides answer.
-use Rattle.std.proofs.Common.{◌≡◌, ℕ, ◌+◌, ◌-◌, ◌*◌, ◌/◌, ◌%◌, ◌<◌, ◌≤◌, true, ltb, sym, ap, ◌∙◌, subst, arith}
+use Rattle.std.proofs.Common.{◌≡◌, ℕ, ◌+◌, ◌-◌, ◌*◌, ◌/◌, ◌%◌, ◌<◌, ◌≤◌, true, ltb, sym, ap, ap₂, ◌∙◌, subst, arith}
 use Rattle.std.proofs.lemmas.Bool.{lt-ltb, le-ltb, cond-true, cond-false}
-use Rattle.theory.specs.Limits.{number_read}
+use Rattle.theory.specs.Limits.{Count, most_states, number_read}
 use Rattle.theory.specs.Control.{ControlValue, Lawful, next_of, display_of, fits, product, side_by_side}
 use Rattle.theory.specs.Reading.{number_read_below, number_within}
 use Rattle.control.specs.Pairs.{left_state, right_state, side_by_side_lawful}
 
+-- a number that is this one keeps what this one keeps
+valued : {n m : ℕ} (P : ℕ → Type 0) → n ≡ m → P m → record { value : n ≡ m; bound : P n }
+valued P e h = record { value = e; bound = subst P (sym e) h }
+
 module _ {D : Type 0} {a b : ControlValue D} (left : Lawful a) (right : Lawful b) (fit : fits a b ≡ true) where
-  pub beside : side_by_side a b ≡ product a b
+  lawful : Lawful (side_by_side a b)
+  lawful = side_by_side_lawful left right
+
+  beside : side_by_side a b ≡ product a b
   beside = cond-true (fits a b) (product a b) a fit
 
-  -- a state, a command and a console as the pair reads them
-  read_below : (count : ControlValue D → ℕ) (n n' : ℕ) → 1 ≤ count (side_by_side a b) → n' ≡ number_read (count (side_by_side a b)) n → n' < count (product a b)
-  read_below count n n' some e =
-      let below : n' < count (side_by_side a b) = subst (λ k. k < count (side_by_side a b)) (sym e) (number_read_below _ n some) in
-      subst (λ k. n' < k) (ap count beside) below
+  pub states_product : {l r : ℕ} → l ≡ a.states → r ≡ b.states → record { value : l * r ≡ (side_by_side a b).states; bound : Count most_states (l * r) }
+  states_product el er = valued (Count most_states) (ap₂ ◌*◌ el er ∙ sym (ap (λ v. v.states) beside)) lawful.states_count
 
-  state_below : (s s' : ℕ) → s' ≡ number_read (side_by_side a b).states s → s' < a.states * b.states
-  state_below s s' e = read_below (λ v. v.states) s s' (side_by_side_lawful left right).states_count.0 e
+  pub start_joined : {s w t : ℕ} → s ≡ a.start → w ≡ b.states → t ≡ b.start → record { value : s * w + t ≡ (side_by_side a b).start; bound : s * w + t < (side_by_side a b).states }
+  start_joined es ew et = valued (λ n. n < (side_by_side a b).states) (ap₂ ◌+◌ (ap₂ ◌*◌ es ew) et ∙ sym (ap (λ v. v.start) beside)) lawful.starts
 
-  command_below : (c c' : ℕ) → c' ≡ number_read (side_by_side a b).commands c → c' < a.commands + b.commands
-  command_below c c' e = read_below (λ v. v.commands) c c' (side_by_side_lawful left right).commands_count.0 e
+  -- a number that the pair reads among `count` of its own
+  read_below : (count : ControlValue D → ℕ) {k n' : ℕ} (n : ℕ) → 1 ≤ count (side_by_side a b) → k ≡ count (side_by_side a b) → n' ≡ number_read k n → n' < count (product a b)
+  read_below count {k} {n'} n some ek en =
+      let below : n' < k = subst (λ m. m < k) (sym en) (number_read_below k n (omega arith)) in
+      subst (λ m. n' < m) (ek ∙ ap count beside) below
 
-  -- A step of the pair, where state s is read as s' and command c as c'. w is the width of a
-  -- row of states, f the left side's number of commands.
-  module _ (s c s' c' w f r : ℕ) (es : s' ≡ number_read (side_by_side a b).states s) (ec : c' ≡ number_read (side_by_side a b).commands c) (ew : w ≡ b.states) (ef : f ≡ a.commands) where
-    step_read : (product a b).step s' c' ≡ next_of (side_by_side a b) s c
-    step_read =
-        ap (λ v. v.step s' c') (sym beside)
-        ∙ ap (λ n. (side_by_side a b).step n c') es
-        ∙ ap ((side_by_side a b).step (number_read (side_by_side a b).states s)) ec
+  -- State s of the pair, read as s' among its n, is in row s' / w, column s' % w.
+  module _ {n s' w : ℕ} (s : ℕ) (en : n ≡ (side_by_side a b).states) (es : s' ≡ number_read n s) (ew : w ≡ b.states) where
+    row : s' / w < a.states
+    row = subst (λ k. s' / k < a.states) (sym ew) (left_state left right s' (read_below (λ v. v.states) s lawful.states_count.0 en es))
 
-    pub next_left : c' < f → r ≡ next_of a (s' / w) c' → r * w + s' % w ≡ next_of (side_by_side a b) s c
-    next_left first er =
-        let here : c' < a.commands = omega arith in
-        let row : s' / w < a.states = subst (λ n. s' / n < a.states) (sym ew) (left_state left right s' (state_below s s' es)) in
-        let moved : r ≡ a.step (s' / w) c' = er ∙ ap (λ n. a.step n (number_read a.commands c')) (number_within a.states (s' / w) row) ∙ ap (a.step (s' / w)) (number_within a.commands c' here) in
-        ap (λ n. n * w + s' % w) moved
-        ∙ ap (λ n. a.step (s' / n) c' * n + s' % n) ew
-        ∙ sym (cond-true (ltb c' a.commands) _ _ (lt-ltb c' a.commands here))
-        ∙ step_read
+    column : s' % w < b.states
+    column = subst (λ k. s' % k < b.states) (sym ew) (right_state left right s')
 
-    pub next_right : f ≤ c' → r ≡ next_of b (s' % w) (c' - f) → s' / w * w + r ≡ next_of (side_by_side a b) s c
-    next_right second er =
-        let past : a.commands ≤ c' = omega arith in
-        let place : c' - f < b.commands = omega (arith, command_below c c' ec) in
-        let column : s' % w < b.states = subst (λ n. s' % n < b.states) (sym ew) (right_state left right s') in
-        let moved : r ≡ b.step (s' % w) (c' - f) = er ∙ ap (λ n. b.step n (number_read b.commands (c' - f))) (number_within b.states (s' % w) column) ∙ ap (b.step (s' % w)) (number_within b.commands (c' - f) place) in
-        ap (λ n. s' / w * w + n) moved
-        ∙ ap (λ n. s' / n * n + b.step (s' % n) (c' - f)) ew
-        ∙ ap (λ n. s' / b.states * b.states + b.step (s' % b.states) (c' - n)) ef
-        ∙ sym (cond-false (ltb c' a.commands) _ _ (le-ltb c' a.commands past))
-        ∙ step_read
+    state_read : s' ≡ number_read (side_by_side a b).states s
+    state_read = es ∙ ap (λ k. number_read k s) en
 
-  -- What a console of the left side shows, where state s is read as s' and console u as u'.
-  pub display_left : (s u s' u' w f : ℕ) (d : D) → s' ≡ number_read (side_by_side a b).states s → u' ≡ number_read (side_by_side a b).consoles u → w ≡ b.states → f ≡ a.consoles
-      → u' < f → d ≡ display_of a (s' / w) u' → d ≡ display_of (side_by_side a b) s u
-  display_left s u s' u' w f d es eu ew ef first ed =
-      let here : u' < a.consoles = omega arith in
-      let row : s' / w < a.states = subst (λ n. s' / n < a.states) (sym ew) (left_state left right s' (state_below s s' es)) in
-      ed
-      ∙ ap (λ n. a.shows n (number_read a.consoles u')) (number_within a.states (s' / w) row)
-      ∙ ap (a.shows (s' / w)) (number_within a.consoles u' here)
-      ∙ ap (λ n. a.shows (s' / n) u') ew
-      ∙ sym (cond-true (ltb u' a.consoles) _ _ (lt-ltb u' a.consoles here))
-      ∙ ap (λ v. v.shows s' u') (sym beside)
-      ∙ ap (λ n. (side_by_side a b).shows n u') es
-      ∙ ap ((side_by_side a b).shows (number_read (side_by_side a b).states s)) eu
+    -- a step, where command c is read as c' among m; the left side has f commands
+    module _ {m c' f : ℕ} (c : ℕ) (em : m ≡ (side_by_side a b).commands) (ec : c' ≡ number_read m c) (ef : f ≡ a.commands) where
+      moved : {t : ℕ} → t ≡ (product a b).step s' c' → record { value : t ≡ next_of (side_by_side a b) s c; bound : t < (side_by_side a b).states }
+      moved e = valued (λ k. k < (side_by_side a b).states)
+          (e ∙ ap (λ v. v.step s' c') (sym beside) ∙ ap₂ (side_by_side a b).step state_read (ec ∙ ap (λ k. number_read k c) em))
+          (lawful.stays _ _ (number_read_below _ s lawful.states_count.0) (number_read_below _ c lawful.commands_count.0))
 
--- each step of a control stays among its states
-pub next_below : {D : Type 0} {v : ControlValue D} → Lawful v → (s c : ℕ) → next_of v s c < v.states
-next_below lawful s c = lawful.stays _ _ (number_read_below _ s lawful.states_count.0) (number_read_below _ c lawful.commands_count.0)
+      pub next_left : {r : ℕ} → c' < f → r ≡ next_of a (s' / w) c' → record { value : r * w + s' % w ≡ next_of (side_by_side a b) s c; bound : r * w + s' % w < (side_by_side a b).states }
+      next_left first er =
+          let here : c' < a.commands = omega arith in
+          moved
+          (ap (λ k. k * w + s' % w) (er ∙ ap₂ a.step (number_within a.states (s' / w) row) (number_within a.commands c' here))
+          ∙ ap (λ k. a.step (s' / k) c' * k + s' % k) ew
+          ∙ sym (cond-true (ltb c' a.commands) _ _ (lt-ltb c' a.commands here)))
+
+      pub next_right : {r : ℕ} → f ≤ c' → r ≡ next_of b (s' % w) (c' - f) → record { value : s' / w * w + r ≡ next_of (side_by_side a b) s c; bound : s' / w * w + r < (side_by_side a b).states }
+      next_right second er =
+          let past : a.commands ≤ c' = omega arith in
+          let place : c' - f < b.commands = omega (arith, read_below (λ v. v.commands) c lawful.commands_count.0 em ec) in
+          moved
+          (ap (λ k. s' / w * w + k) (er ∙ ap₂ b.step (number_within b.states (s' % w) column) (number_within b.commands (c' - f) place))
+          ∙ ap (λ k. s' / k * k + b.step (s' % k) (c' - f)) ew
+          ∙ ap (λ k. s' / b.states * b.states + b.step (s' % b.states) (c' - k)) ef
+          ∙ sym (cond-false (ltb c' a.commands) _ _ (le-ltb c' a.commands past)))
+
+    -- what a console of the left side shows, where console u is read as u' among m
+    pub display_left : {m u' f : ℕ} {d : D} (u : ℕ) → m ≡ (side_by_side a b).consoles → u' ≡ number_read m u → f ≡ a.consoles → u' < f → d ≡ display_of a (s' / w) u' → d ≡ display_of (side_by_side a b) s u
+    display_left {u' = u'} u em eu ef first ed =
+        let here : u' < a.consoles = omega arith in
+        ed
+        ∙ ap₂ a.shows (number_within a.states (s' / w) row) (number_within a.consoles u' here)
+        ∙ ap (λ k. a.shows (s' / k) u') ew
+        ∙ sym (cond-true (ltb u' a.consoles) _ _ (lt-ltb u' a.consoles here))
+        ∙ ap (λ v. v.shows s' u') (sym beside)
+        ∙ ap₂ (side_by_side a b).shows state_read (eu ∙ ap (λ k. number_read k u) em)

@@ -25,10 +25,5 @@ pub(crate) fn read_number(count: usize, number: usize) -> usize
 pub fn all_below(count: usize, numbers: &[u8]) -> bool
     ensures { result ≡ all_below count numbers.now }
 {
-    for number in numbers {
-        if usize::from(*number) >= count {
-            return false;
-        }
-    }
-    true
+    numbers.iter().all(|number| usize::from(*number) < count)
 }

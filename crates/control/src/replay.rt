@@ -38,23 +38,18 @@ pub fn walk<C: Control>(control: &C, lockouts: &Lockouts, sequence: &[u8]) -> us
 pub fn check_commands(lockouts: &Lockouts, sequence: &[u8]) -> Result<(), Refusal>
     ensures { result ≡ commands_answer (commands_of lockouts.now) sequence.now }
 {
-    if all_below(lockouts.commands(), sequence) {
-        Ok(())
-    } else {
-        Err(Refusal::NoSuchCommand)
-    }
+    all_below(lockouts.commands(), sequence)
+        .then_some(())
+        .ok_or(Refusal::NoSuchCommand)
 }
 
 // Refused where control and board have different numbers of consoles or of commands.
 pub fn check_counts<C: Control>(board: &Board, control: &C) -> Result<(), Refusal>
     ensures { result ≡ counts_answer (value_of board.now) (C.Control.value control.now) }
 {
-    if control.consoles() != board.flows().consoles()
-        || control.commands() != board.lockouts().commands()
-    {
-        return Err(Refusal::CountsDiffer);
-    }
-    Ok(())
+    let same = control.consoles() == board.flows().consoles()
+        && control.commands() == board.lockouts().commands();
+    same.then_some(()).ok_or(Refusal::CountsDiffer)
 }
 
 // The last state of a sequence, run from the start under the board's lockouts.

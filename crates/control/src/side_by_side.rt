@@ -1,13 +1,15 @@
 // Two controls of one display kind side by side, as one control.
-ghost use Rattle.std.specs.Prelude.{◌≡◌};
+ghost use Rattle.std.specs.Prelude.{◌≡◌, ◌+◌, ◌^◌, ◌<◌, if◌then◌else◌};
 ghost use Rattle.theory.specs.Control.{fits, side_by_side};
 ghost use Rattle.control.specs.Pairs.{fit_answer, side_by_side_lawful};
 
 use crate::control::Control;
 use crate::reading::read_number;
 use policy::refusal::Refusal;
+use theory::limits::{MOST_COMMANDS, MOST_CONSOLES, MOST_STATES};
 
-// Each side moves and shows its own; a pair that does not fit is the left control alone.
+// Each side moves and shows its own; a pair that does not fit is the left control alone. Callers
+// copy pairs, and a generic struct with a ghost field is not Copy: so each method asks for the fit.
 #[derive(Clone, Copy)]
 pub struct SideBySide<L, R> {
     pub left: L,
@@ -18,9 +20,9 @@ pub struct SideBySide<L, R> {
 fn fit<L: Control, R: Control<Display = L::Display>>(left: &L, right: &R) -> bool
     ensures { result ≡ fits (L.Control.value left.now) (R.Control.value right.now) }
 {
-    left.states() * right.states() <= 100
-        && left.commands() + right.commands() <= 24
-        && left.consoles() + right.consoles() <= 12
+    left.states() * right.states() <= MOST_STATES
+        && left.commands() + right.commands() <= MOST_COMMANDS
+        && left.consoles() + right.consoles() <= MOST_CONSOLES
 }
 
 // The first call for a pair: refused where it would pass the limits.
@@ -30,10 +32,22 @@ pub fn check_fit<L: Control, R: Control<Display = L::Display>>(
 ) -> Result<(), Refusal>
     ensures { result ≡ fit_answer (L.Control.value left.now) (R.Control.value right.now) }
 {
-    if fit(left, right) {
-        Ok(())
-    } else {
-        Err(Refusal::DoesNotFit)
+    fit(left, right).then_some(()).ok_or(Refusal::DoesNotFit)
+}
+
+impl<L: Control, R: Control<Display = L::Display>> SideBySide<L, R> {
+    fn fits(&self) -> bool
+        ensures { result ≡ fits (L.Control.value self.now.left) (R.Control.value self.now.right) }
+    {
+        fit(&self.left, &self.right)
+    }
+
+    // The left side's count alone, and besides it the right's where the two fit.
+    fn besides(&self, left: usize, right: usize) -> usize
+        requires { left + right < 2 ^ 64 }
+        ensures { result ≡ (if fits (L.Control.value self.now.left) (R.Control.value self.now.right) then left + right else left) }
+    {
+        if self.fits() { left + right } else { left }
     }
 }
 
@@ -46,7 +60,7 @@ impl<L: Control, R: Control<Display = L::Display>> Control for SideBySide<L, R> 
 
     fn states(&self) -> usize {
         let left = self.left.states();
-        if fit(&self.left, &self.right) {
+        if self.fits() {
             left * self.right.states()
         } else {
             left
@@ -54,26 +68,16 @@ impl<L: Control, R: Control<Display = L::Display>> Control for SideBySide<L, R> 
     }
 
     fn commands(&self) -> usize {
-        let left = self.left.commands();
-        if fit(&self.left, &self.right) {
-            left + self.right.commands()
-        } else {
-            left
-        }
+        self.besides(self.left.commands(), self.right.commands())
     }
 
     fn consoles(&self) -> usize {
-        let left = self.left.consoles();
-        if fit(&self.left, &self.right) {
-            left + self.right.consoles()
-        } else {
-            left
-        }
+        self.besides(self.left.consoles(), self.right.consoles())
     }
 
     fn start(&self) -> usize {
         let row = self.left.start();
-        if fit(&self.left, &self.right) {
+        if self.fits() {
             row * self.right.states() + self.right.start()
         } else {
             row
@@ -81,7 +85,7 @@ impl<L: Control, R: Control<Display = L::Display>> Control for SideBySide<L, R> 
     }
 
     fn owner(&self, command: usize) -> usize {
-        if !fit(&self.left, &self.right) {
+        if !self.fits() {
             return self.left.owner(command);
         }
         let command = read_number(self.commands(), command);
@@ -94,7 +98,7 @@ impl<L: Control, R: Control<Display = L::Display>> Control for SideBySide<L, R> 
     }
 
     fn next(&self, state: usize, command: usize) -> usize {
-        if !fit(&self.left, &self.right) {
+        if !self.fits() {
             return self.left.next(state, command);
         }
         let state = read_number(self.states(), state);
@@ -109,7 +113,7 @@ impl<L: Control, R: Control<Display = L::Display>> Control for SideBySide<L, R> 
     }
 
     fn display(&self, state: usize, console: usize) -> L::Display {
-        if !fit(&self.left, &self.right) {
+        if !self.fits() {
             return self.left.display(state, console);
         }
         let state = read_number(self.states(), state);

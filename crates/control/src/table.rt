@@ -7,6 +7,16 @@ use crate::control::Control;
 use crate::reading::{read_count, read_number};
 use display::kind::DisplayKind;
 use policy::refusal::Refusal;
+use theory::limits::{MOST_COMMANDS, MOST_CONSOLES, MOST_STATES};
+
+// the fewest steps that a table's store has room for
+pub const STEPS: usize = MOST_STATES * MOST_COMMANDS;
+
+// the fewest consoles of commands
+pub const OWNERS: usize = MOST_COMMANDS;
+
+// the fewest displays
+pub const DISPLAYS: usize = MOST_STATES * MOST_CONSOLES;
 
 // The three counts of a control.
 #[derive(Clone, Copy, PartialEq, Eq, Debug)]
@@ -16,7 +26,7 @@ pub struct Counts {
     pub consoles: usize,
 }
 
-// The store of a table: room for 2,400 steps, 24 consoles and 1,200 displays at least.
+// The store of a table, lent by the caller: a refusal speaks of its size.
 #[derive(Clone, Copy)]
 pub struct Store<'a, C> {
     // the next state, at state times commands plus command
@@ -27,8 +37,8 @@ pub struct Store<'a, C> {
     pub displays: &'a [C],
 }
 
-// A table reads counts, start and store as they are: a count out of range as 1, anything else
-// out of range as 0.
+// A table reads counts, start and store as they are: a count out of range as 1, anything else out
+// of range as 0. Callers copy tables, and a generic struct with a ghost field is not Copy.
 #[derive(Clone, Copy)]
 pub struct Table<'a, D: DisplayKind> {
     counts: Counts,
@@ -40,17 +50,14 @@ pub struct Table<'a, D: DisplayKind> {
 fn entry(store: &[u8], at: usize) -> usize
     ensures { result ≡ slice_index store.now at }
 {
-    if at < store.len() {
-        store[at] as usize
-    } else {
-        0
-    }
+    store.get(at).map_or(0, |entry| usize::from(*entry))
 }
 
 // A display that the store lacks is read as zero.
 fn display_at<D: DisplayKind>(store: &[D::Cell], at: usize) -> D
     ensures { result ≡ slice_index_or (map D.DisplayKind.stored store.now) at D.DisplayKind.zero }
 {
+    // No `map_or_else`: a closure whose result is of a type parameter gets no proof.
     match store.get(at) {
         Some(cell) => D::from_cell(*cell),
         None => D::zero(),
@@ -67,7 +74,10 @@ impl<'a, D: DisplayKind> Table<'a, D> {
         ensures contents { IfOk result (λ t. contents_of t ≡ contents counts start store.entry) }
         ensures refused { IfErr result (λ e. e ≡ TableStoreTooSmall) }
     {
-        if store.steps.len() < 2400 || store.owners.len() < 24 || store.displays.len() < 1200 {
+        if store.steps.len() < STEPS
+            || store.owners.len() < OWNERS
+            || store.displays.len() < DISPLAYS
+        {
             return Err(Refusal::TableStoreTooSmall);
         }
         Ok(Table {
@@ -86,15 +96,15 @@ impl<'a, D: DisplayKind> Control for Table<'a, D> {
     ghost lawful = { λ t. table_lawful D.DisplayKind.stored D.DisplayKind.zero (contents_of t) };
 
     fn states(&self) -> usize {
-        read_count(100, self.counts.states)
+        read_count(MOST_STATES, self.counts.states)
     }
 
     fn commands(&self) -> usize {
-        read_count(24, self.counts.commands)
+        read_count(MOST_COMMANDS, self.counts.commands)
     }
 
     fn consoles(&self) -> usize {
-        read_count(12, self.counts.consoles)
+        read_count(MOST_CONSOLES, self.counts.consoles)
     }
 
     fn start(&self) -> usize {

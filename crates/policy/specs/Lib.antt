@@ -4,3 +4,4 @@ pub mod Rows
 pub mod Flows
 pub mod Lockouts
 pub mod Board
+pub mod Calls

@@ -1,10 +1,10 @@
 // A board: the flows and the lockouts in force at a receiver.
-ghost use Rattle.std.specs.Prelude.{◌≡◌, ℕ, false, ◌&&◌, is_ok, IfOk, IfErr, if◌then◌else◌};
+ghost use Rattle.std.specs.Prelude.{◌≡◌, false, ◌&&◌, is_ok, IfOk, IfErr};
 ghost use Rattle.theory.specs.Limits.{counts, most_consoles, most_commands};
-ghost use Rattle.theory.specs.Flows.{bare_flows, no_lockout, with_flow, without_flow, with_lock, without_lock};
-ghost use Rattle.policy.specs.Flows.{consoles_of, may_affect, allow_answer, forbid_answer};
-ghost use Rattle.policy.specs.Lockouts.{commands_of, locks, lock_answer};
-ghost use Rattle.policy.specs.Board.{flows_of, lockouts_of};
+ghost use Rattle.policy.specs.Flows.{allow_answer, forbid_answer};
+ghost use Rattle.policy.specs.Lockouts.{lock_answer};
+ghost use Rattle.policy.specs.Board.{flows_of, lockouts_of, value_of};
+ghost use Rattle.policy.specs.Calls.{bare_board, after_allow, after_forbid, after_lock, after_unlock};
 ghost use Rattle.policy.specs.declared.refusal.Refusal.TheVariants.{BoardLimits};
 
 use crate::flows::Flows;
@@ -22,8 +22,7 @@ impl Board {
     // A bare board: each console's flow to itself, and no lockout.
     pub fn bare(consoles: usize, commands: usize) -> Result<Board, Refusal>
         ensures answer { is_ok result ≡ (counts most_consoles consoles && counts most_commands commands) }
-        ensures flows { IfOk result (λ b. (consoles_of (flows_of b) ≡ consoles) × ((u v : ℕ) → may_affect (flows_of b) u v ≡ bare_flows consoles u v)) }
-        ensures lockouts { IfOk result (λ b. (commands_of (lockouts_of b) ≡ commands) × ((c : ℕ) → locks (lockouts_of b) c ≡ no_lockout c)) }
+        ensures bare { IfOk result (λ b. value_of b ≡ bare_board consoles commands) }
         ensures refused { IfErr result (λ e. e ≡ BoardLimits) }
     {
         let flows = Flows::bare(consoles)?;
@@ -44,9 +43,8 @@ impl Board {
     }
 
     pub fn allow(&mut self, from: usize, to: usize) -> Result<(), Refusal>
-        ensures answer { result ≡ allow_answer (consoles_of (flows_of self.old)) from to }
-        ensures flows { (u v : ℕ) → may_affect (flows_of self.new) u v ≡ (if is_ok result then with_flow (may_affect (flows_of self.old)) from to u v else may_affect (flows_of self.old) u v) }
-        ensures consoles { consoles_of (flows_of self.new) ≡ consoles_of (flows_of self.old) }
+        ensures answer { result ≡ allow_answer (value_of self.old).consoles from to }
+        ensures board { value_of self.new ≡ after_allow (value_of self.old) from to }
         ensures lockouts { lockouts_of self.new ≡ lockouts_of self.old }
         ensures kept { is_ok result ≡ false → self.new ≡ self.old }
     {
@@ -54,9 +52,8 @@ impl Board {
     }
 
     pub fn forbid(&mut self, from: usize, to: usize) -> Result<(), Refusal>
-        ensures answer { result ≡ forbid_answer (consoles_of (flows_of self.old)) from to }
-        ensures flows { (u v : ℕ) → may_affect (flows_of self.new) u v ≡ (if is_ok result then without_flow (may_affect (flows_of self.old)) from to u v else may_affect (flows_of self.old) u v) }
-        ensures consoles { consoles_of (flows_of self.new) ≡ consoles_of (flows_of self.old) }
+        ensures answer { result ≡ forbid_answer (value_of self.old).consoles from to }
+        ensures board { value_of self.new ≡ after_forbid (value_of self.old) from to }
         ensures lockouts { lockouts_of self.new ≡ lockouts_of self.old }
         ensures kept { is_ok result ≡ false → self.new ≡ self.old }
     {
@@ -64,9 +61,8 @@ impl Board {
     }
 
     pub fn lock(&mut self, command: usize) -> Result<(), Refusal>
-        ensures answer { result ≡ lock_answer (commands_of (lockouts_of self.old)) command }
-        ensures lockouts { (c : ℕ) → locks (lockouts_of self.new) c ≡ (if is_ok result then with_lock (locks (lockouts_of self.old)) command c else locks (lockouts_of self.old) c) }
-        ensures commands { commands_of (lockouts_of self.new) ≡ commands_of (lockouts_of self.old) }
+        ensures answer { result ≡ lock_answer (value_of self.old).commands command }
+        ensures board { value_of self.new ≡ after_lock (value_of self.old) command }
         ensures flows { flows_of self.new ≡ flows_of self.old }
         ensures kept { is_ok result ≡ false → self.new ≡ self.old }
     {
@@ -74,9 +70,8 @@ impl Board {
     }
 
     pub fn unlock(&mut self, command: usize) -> Result<(), Refusal>
-        ensures answer { result ≡ lock_answer (commands_of (lockouts_of self.old)) command }
-        ensures lockouts { (c : ℕ) → locks (lockouts_of self.new) c ≡ (if is_ok result then without_lock (locks (lockouts_of self.old)) command c else locks (lockouts_of self.old) c) }
-        ensures commands { commands_of (lockouts_of self.new) ≡ commands_of (lockouts_of self.old) }
+        ensures answer { result ≡ lock_answer (value_of self.old).commands command }
+        ensures board { value_of self.new ≡ after_unlock (value_of self.old) command }
         ensures flows { flows_of self.new ≡ flows_of self.old }
         ensures kept { is_ok result ≡ false → self.new ≡ self.old }
     {

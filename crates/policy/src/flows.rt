@@ -5,6 +5,7 @@ ghost use Rattle.theory.specs.Flows.{SelfFlows, FlowsWithin};
 ghost use Rattle.policy.specs.Rows.{affects};
 
 use crate::members::Members;
+use theory::limits::MOST_CONSOLES;
 
 pub mod calls;
 
@@ -13,7 +14,7 @@ pub mod calls;
 #[derive(Clone, Copy)]
 pub struct Flows {
     consoles: usize,
-    rows: [Members; 12],
+    rows: [Members; MOST_CONSOLES],
     ghost count: { Count most_consoles consoles },
     ghost selves: { SelfFlows consoles (affects rows) },
     ghost within: { FlowsWithin consoles (affects rows) },

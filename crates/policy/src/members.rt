@@ -2,7 +2,10 @@
 ghost use Rattle.std.specs.Prelude.{◌≡◌, ℕ, true, false, not, ◌&&◌, ◌||◌, ◌==◌, nat_lt};
 ghost use Rattle.policy.specs.Members.{holds};
 
-// A set of numbers below 32, a bit for each.
+// how many numbers a set has room for
+const ROOM: usize = 32;
+
+// A set of numbers below 32, a bit for each: lockouts are one word, which is put back as a whole.
 #[derive(Clone, Copy, PartialEq, Eq, Debug)]
 pub struct Members {
     word: u32,
@@ -15,17 +18,19 @@ impl Members {
         Members { word: 0 }
     }
 
+    #[tactic(auto, using(std::proofs::lemmas::Nat::Bits::shr_and_one))]
     pub fn has(self, number: usize) -> bool
         ensures { result ≡ holds self number }
     {
-        number < 32 && (self.word >> number) & 1 == 1
+        number < ROOM && (self.word >> number) & 1 == 1
     }
 
     // A number from 32 on has no place, and is left off.
+    #[tactic(auto, using(crate::proofs::Bits::set_with))]
     pub fn with(self, number: usize) -> Members
         ensures { (j : ℕ) → holds result j ≡ (holds self j || (j == number && nat_lt j 32)) }
     {
-        if number >= 32 {
+        if number >= ROOM {
             return self;
         }
         Members {
@@ -33,10 +38,11 @@ impl Members {
         }
     }
 
+    #[tactic(auto, using(crate::proofs::Bits::set_without))]
     pub fn without(self, number: usize) -> Members
         ensures { (j : ℕ) → holds result j ≡ (holds self j && not (j == number)) }
     {
-        if number >= 32 {
+        if number >= ROOM {
             return self;
         }
         Members {

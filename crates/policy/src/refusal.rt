@@ -1,8 +1,10 @@
-// How a call is refused, and the four numbers that a refusal tells.
-ghost use Rattle.std.specs.Prelude.{◌≡◌};
-ghost use Rattle.policy.specs.Refusals.{number_alone, cause_number, told_of};
+// How a call is refused, why in words, and the four numbers that a refusal tells.
+ghost use Rattle.std.specs.Prelude.{◌≡◌, Some};
+ghost use Rattle.policy.specs.Refusals.{number_alone, told_of, values_of, reason_of};
 
 use mark::cause::Cause;
+use std::fmt;
+use theory::limits::MOST_SHEET_BYTES;
 
 #[derive(Clone, Copy, PartialEq, Eq, Debug)]
 pub enum Refusal {
@@ -61,27 +63,14 @@ impl Told {
     }
 }
 
-fn cause_number(cause: Cause) -> usize
-    ensures { result ≡ cause_number cause }
-{
-    match cause {
-        Cause::NoMark => 3,
-        Cause::NotDue => 4,
-        Cause::OutOfRange => 5,
-        Cause::EndsEarly => 6,
-    }
-}
+impl From<Refusal> for Told {
+    ghost from_gives = { λ refusal told. told ≡ told_of refusal };
 
-impl Refusal {
-    pub fn told(self) -> Told
-        ensures { result ≡ told_of self }
-    {
-        match self {
+    fn from(refusal: Refusal) -> Told {
+        match refusal {
             Refusal::SheetTooLong => Told {
-                number: 1,
-                place: 40960,
-                line: 0,
-                block: 0,
+                place: MOST_SHEET_BYTES,
+                ..Told::number_alone(1)
             },
             Refusal::TableStoreTooSmall => Told::number_alone(2),
             Refusal::Fault {
@@ -90,7 +79,7 @@ impl Refusal {
                 line,
                 block,
             } => Told {
-                number: cause_number(cause),
+                number: cause as usize,
                 place,
                 line,
                 block,
@@ -103,11 +92,53 @@ impl Refusal {
             Refusal::SequenceTooLong => Told::number_alone(14),
             Refusal::BoardLimits => Told::number_alone(15),
             Refusal::OutputTooShort { needed } => Told {
-                number: 16,
                 place: needed,
-                line: 0,
-                block: 0,
+                ..Told::number_alone(16)
             },
         }
+    }
+}
+
+impl Refusal {
+    pub fn told(self) -> Told
+        ensures { result ≡ told_of self }
+    {
+        self.into()
+    }
+}
+
+// The four values on one line.
+impl fmt::Display for Told {
+    ghost output = { λ told. Some (values_of told) };
+
+    fn fmt<W: fmt::Write>(&self, f: &mut fmt::Formatter<W>) -> fmt::Result {
+        let Told {
+            number,
+            place,
+            line,
+            block,
+        } = *self;
+        write!(f, "{number} {place} {line} {block}")
+    }
+}
+
+// Why a call is refused, in words.
+impl fmt::Display for Refusal {
+    ghost output = { λ refusal. Some (reason_of refusal) };
+
+    fn fmt<W: fmt::Write>(&self, f: &mut fmt::Formatter<W>) -> fmt::Result {
+        f.write_str(match self {
+            Refusal::SheetTooLong => "the sheet has more than 40960 bytes",
+            Refusal::TableStoreTooSmall => "the store has no room for a table",
+            Refusal::Fault { .. } => "the sheet has a fault",
+            Refusal::NoSuchConsole => "there is no such console",
+            Refusal::NoSuchCommand => "there is no such command",
+            Refusal::SelfFlow => "every console may affect itself",
+            Refusal::CountsDiffer => "control and board differ in consoles or commands",
+            Refusal::DoesNotFit => "the two controls do not fit side by side",
+            Refusal::SequenceTooLong => "a sequence has more than 64 commands",
+            Refusal::BoardLimits => "a board has 1 to 12 consoles and 1 to 24 commands",
+            Refusal::OutputTooShort { .. } => "the output is shorter than the sheet",
+        })
     }
 }

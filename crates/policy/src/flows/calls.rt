@@ -8,6 +8,7 @@ ghost use Rattle.policy.specs.declared.refusal.Refusal.TheVariants.{BoardLimits}
 use crate::flows::Flows;
 use crate::members::Members;
 use crate::refusal::Refusal;
+use theory::limits::MOST_CONSOLES;
 
 impl Flows {
     // Each console's flow to itself, and no other.
@@ -16,10 +17,11 @@ impl Flows {
         ensures bare { IfOk result (λ f. (consoles_of f ≡ consoles) × ((u v : ℕ) → may_affect f u v ≡ bare_flows consoles u v)) }
         ensures refused { IfErr result (λ e. e ≡ BoardLimits) }
     {
-        if consoles < 1 || consoles > 12 {
+        if consoles < 1 || consoles > MOST_CONSOLES {
             return Err(Refusal::BoardLimits);
         }
-        let mut rows = [Members::none(); 12];
+        let mut rows = [Members::none(); MOST_CONSOLES];
+        // By index: of `array::from_fn` and `iter_mut().enumerate()` no clause tells each element.
         for u in 0..consoles {
             rows[u] = Members::none().with(u);
         }
@@ -39,17 +41,25 @@ impl Flows {
         from < self.consoles && self.rows[from].has(to)
     }
 
+    // Refused where the board lacks one of the two consoles.
+    fn check_consoles(&self, from: usize, to: usize) -> Result<(), Refusal>
+        ensures { result ≡ allow_answer (consoles_of self.now) from to }
+    {
+        if from < self.consoles && to < self.consoles {
+            Ok(())
+        } else {
+            Err(Refusal::NoSuchConsole)
+        }
+    }
+
     pub fn allow(&mut self, from: usize, to: usize) -> Result<(), Refusal>
         ensures answer { result ≡ allow_answer (consoles_of self.old) from to }
         ensures flows { (u v : ℕ) → may_affect self.new u v ≡ (if is_ok result then with_flow (may_affect self.old) from to u v else may_affect self.old u v) }
         ensures consoles { consoles_of self.new ≡ consoles_of self.old }
         ensures kept { is_ok result ≡ false → self.new ≡ self.old }
     {
-        if from >= self.consoles || to >= self.consoles {
-            return Err(Refusal::NoSuchConsole);
-        }
-        let row = self.rows[from];
-        self.rows[from] = row.with(to);
+        self.check_consoles(from, to)?;
+        self.rows[from] = self.rows[from].with(to);
         Ok(())
     }
 
@@ -59,14 +69,11 @@ impl Flows {
         ensures consoles { consoles_of self.new ≡ consoles_of self.old }
         ensures kept { is_ok result ≡ false → self.new ≡ self.old }
     {
-        if from >= self.consoles || to >= self.consoles {
-            return Err(Refusal::NoSuchConsole);
-        }
+        self.check_consoles(from, to)?;
         if from == to {
             return Err(Refusal::SelfFlow);
         }
-        let row = self.rows[from];
-        self.rows[from] = row.without(to);
+        self.rows[from] = self.rows[from].without(to);
         Ok(())
     }
 }

@@ -8,6 +8,7 @@ ghost use Rattle.policy.specs.declared.refusal.Refusal.TheVariants.{BoardLimits}
 use crate::lockouts::Lockouts;
 use crate::members::Members;
 use crate::refusal::Refusal;
+use theory::limits::MOST_COMMANDS;
 
 impl Lockouts {
     // No command is locked.
@@ -16,7 +17,7 @@ impl Lockouts {
         ensures bare { IfOk result (λ l. (commands_of l ≡ commands) × ((c : ℕ) → locks l c ≡ no_lockout c)) }
         ensures refused { IfErr result (λ e. e ≡ BoardLimits) }
     {
-        if commands < 1 || commands > 24 {
+        if commands < 1 || commands > MOST_COMMANDS {
             return Err(Refusal::BoardLimits);
         }
         Ok(Lockouts {
@@ -38,15 +39,24 @@ impl Lockouts {
         self.locked.has(command)
     }
 
+    // Refused where the board lacks the command.
+    fn check_command(&self, command: usize) -> Result<(), Refusal>
+        ensures { result ≡ lock_answer (commands_of self.now) command }
+    {
+        if command < self.commands {
+            Ok(())
+        } else {
+            Err(Refusal::NoSuchCommand)
+        }
+    }
+
     pub fn lock(&mut self, command: usize) -> Result<(), Refusal>
         ensures answer { result ≡ lock_answer (commands_of self.old) command }
         ensures lockouts { (c : ℕ) → locks self.new c ≡ (if is_ok result then with_lock (locks self.old) command c else locks self.old c) }
         ensures commands { commands_of self.new ≡ commands_of self.old }
         ensures kept { is_ok result ≡ false → self.new ≡ self.old }
     {
-        if command >= self.commands {
-            return Err(Refusal::NoSuchCommand);
-        }
+        self.check_command(command)?;
         self.locked = self.locked.with(command);
         Ok(())
     }
@@ -57,9 +67,7 @@ impl Lockouts {
         ensures commands { commands_of self.new ≡ commands_of self.old }
         ensures kept { is_ok result ≡ false → self.new ≡ self.old }
     {
-        if command >= self.commands {
-            return Err(Refusal::NoSuchCommand);
-        }
+        self.check_command(command)?;
         self.locked = self.locked.without(command);
         Ok(())
     }

@@ -1,5 +1,5 @@
 -- Each flow that is read is allowed, since its consoles are consoles of the board.
-use Rattle.std.proofs.Common.{◌≡◌, ℕ, ◌*◌, ◌/◌, ◌%◌, ◌<◌, is_ok, Ok, Err, refl, ap, ◌∙◌, arith}
+use Rattle.std.proofs.Common.{◌≡◌, ℕ, ◌*◌, ◌/◌, ◌%◌, ◌<◌, is_ok, Ok, Err, sym, refl, ap, ◌∙◌, arith}
 use Rattle.std.proofs.lemmas.Bool.{cond-true}
 use Rattle.policy.specs.Flows.{allow_answer}
 use Rattle.sheet.specs.Calls.{refusal_of}
@@ -10,9 +10,9 @@ use Rattle.sheet.proofs.flows.all_flows.Goals as goal
 
 pub loop-place-init : goal.loop-place-init
 loop-place-init c =
-    let bare = c.in_ok-board.ensures in
+    let bare = c.in_ok-board.ensures.bare in
     listing_start c.args.counts.now c.args.sheet.now c.args.line c.args.at c.in_ok-board.board
-    (lists_none c.args.counts.now c.in_ok-board.board bare.flows.0 bare.lockouts.0 bare.flows.1 bare.lockouts.1)
+    (lists_none c.args.counts.now c.in_ok-board.board (ap (λ b. b.consoles) bare) (ap (λ b. b.commands) bare) (λ u v. ap (λ b. b.flows u v) bare) (λ a. ap (λ b. b.locked a) bare))
 
 pub returns-in_err-pair : goal.returns-in_err-pair
 returns-in_err-pair c =
@@ -37,8 +37,9 @@ loop-place-preserved c =
     let n = c.args.counts.now in
     let p = c.in_ok-pair.pair in
     let some : 0 < n.consoles = omega (arith, c.requires.0.consoles.0) in
+    let board = c.allow.ensures.board ∙ cond-true _ _ _ (ap is_ok (sym c.allow.ensures.answer ∙ c.in_ok-allow.was)) in
     listing_more n c.args.sheet.now c.args.line c.args.at c.loop-place.board c.loop-place.low c.loop-place.row c.loop-place.place c.loop-place.invariant c.allow.new.self (p, c.in_ok-pair.behind) c.loop-place-test.true c.in_ok-pair.ensures.read c.in_ok-pair.ensures.bound.0 c.in_ok-pair.ensures.bound.1
-    (lists_more n c.loop-place.board c.allow.new.self c.loop-place.invariant.so_far p c.loop-place.invariant.lists some c.allow.ensures.consoles c.allow.ensures.lockouts (λ u v. c.allow.ensures.flows u v ∙ cond-true _ _ _ (ap is_ok c.in_ok-allow.was)))
+    (lists_more n c.loop-place.board c.allow.new.self c.loop-place.invariant.so_far p c.loop-place.invariant.lists some (ap (λ b. b.consoles) board) c.allow.ensures.lockouts (λ u v. ap (λ b. b.flows u v) board))
 
 pub returns : goal.returns
 returns c =
