@@ -1,5 +1,6 @@
 -- Which runs of bytes are names and numbers, and which number a run writes.
-use Rattle.std.specs.Prelude.{◌≡◌, ℕ, ◌+◌, ◌-◌, ◌*◌, ◌<◌, Bool, true, false, cond, not, ◌&&◌, ◌||◌, List, [], ◌∷◌, length, Some, None, decimal, Option, ◌==◌, nat_le, slice_index}
+use Rattle.std.specs.Prelude.{◌≡◌, ℕ, ◌+◌, ◌-◌, ◌*◌, ◌<◌, Bool, cond, not, ◌&&◌, ◌||◌, List, [], ◌∷◌, length, Some, None, decimal, Option, ◌==◌, nat_eq, nat_le, slice_index}
+use Rattle.std.specs.Cmp.Lexicographic.{pointwise}
 use Rattle.std.specs.List.{list_all}
 
 abbrev pub small_letter : ℕ → Bool
@@ -13,10 +14,7 @@ abbrev pub each : (ℕ → Bool) → List ℕ → Bool
 each = list_all
 
 abbrev pub same_bytes : List ℕ → List ℕ → Bool
-same_bytes [] [] = true
-same_bytes [] (c ∷ cs) = false
-same_bytes (b ∷ bs) [] = false
-same_bytes (b ∷ bs) (c ∷ cs) = b == c && same_bytes bs cs
+same_bytes = pointwise nat_eq
 
 abbrev pub is_name : List ℕ → Bool
 is_name bs = nat_le 1 (length bs) && (nat_le (length bs) 8 && each small_letter bs)

@@ -1,9 +1,9 @@
 // Writing a mark byte by byte, or a number in decimal; reading it back as a slice.
-ghost use Rattle.std.specs.Prelude.{◌≡◌, [], ◌∷◌, ◌++◌, take, decimal};
+ghost use Rattle.std.specs.Prelude.{◌≡◌, [], ◌∷◌, ◌++◌, take};
 ghost use Rattle.mark.specs.Writing.{text_of};
 
 use crate::writing::Mark;
-use itoa::Buffer;
+use itoa::{Buffer, Integer};
 
 impl Mark {
     pub fn new() -> Mark
@@ -42,9 +42,9 @@ impl Mark {
         }
     }
 
-    // The number in decimal.
-    pub fn push_decimal(&mut self, n: u32)
-        ensures { text_of self.new ≡ take 8 (text_of self.old ++ decimal n) }
+    // The number in decimal: its digits, after a minus where it is below 0.
+    pub fn push_decimal<I: Integer>(&mut self, n: I)
+        ensures { text_of self.new ≡ take 8 (text_of self.old ++ I.text n) }
     {
         self.push_all(Buffer::new().format(n).as_bytes());
     }
