@@ -1,10 +1,12 @@
 -- Codes: their name, sameness, marks and store entries.
-use Rattle.std.specs.Prelude.{◌≡◌, ℕ, ◌<◌, Bool, true, false, List, Some, None, Ok, Err, codes, decimal, Option, Result, ◌==◌, nat_lt, refl}
+use Rattle.std.specs.Prelude.{◌≡◌, ℕ, ◌<◌, Bool, true, false, List, Some, None, Ok, Err, codes, decimal, Option, Result, nat_lt, refl}
 use Rattle.std.proofs.Common.{lit<, ltb-true}
 use Rattle.mark.specs.Runs.{number_in}
 use Rattle.mark.specs.Tokens.{Sort, name, number, negative, no_mark, sort_of}
 use Rattle.mark.specs.declared.cause.Cause.{Cause}
 use Rattle.mark.specs.declared.cause.Cause.TheVariants.{NoMark, NotDue, OutOfRange}
+use Rattle.display.specs.Sameness.{SamenessIsEquality}
+use Rattle.display.specs.contracts.code.CodePartialEq.TheImpl.{ghosts as code_equality}
 use Rattle.display.specs.declared.code.Code.{Code}
 
 abbrev pub code_kind : List ℕ
@@ -21,13 +23,9 @@ code_by n false e then else = else
 abbrev pub code_when : {A : Type 0} → ℕ → (Code → A) → A → A
 code_when n then else = code_by n (nat_lt n 65536) refl then else
 
--- each code is the same as its equal only
-abbrev pub code_alike : Code → Code → Bool
-code_alike x y = x.number == y.number
-
 -- two codes are the same exactly when they are equal
 abbrev pub CodeSamenessIsEquality : Type 0
-CodeSamenessIsEquality = (x y : Code) → (code_alike x y ≡ true → x ≡ y) × (x ≡ y → code_alike x y ≡ true)
+CodeSamenessIsEquality = SamenessIsEquality code_equality.eq
 
 abbrev pub code_mark : Code → List ℕ
 code_mark x = decimal x.number

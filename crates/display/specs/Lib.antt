@@ -1,5 +1,6 @@
 pub mod Marks
 pub mod Ranges
+pub mod Sameness
 pub mod Codes
 pub mod Readings
 pub mod MarksLemmas

@@ -1,22 +1,21 @@
 // A kind of display: its name, when two displays are the same, and the mark that stands for one in a sheet.
-ghost use Rattle.std.specs.Prelude.{◌≡◌, ℕ, ◌≤◌, Bool, true, List, length, Ok, Result};
+ghost use Rattle.std.specs.Prelude.{◌≡◌, ℕ, ◌≤◌, true, List, length, Ok, Result};
 ghost use Rattle.mark.specs.Runs.{is_name, each};
 ghost use Rattle.mark.specs.Writing.{text_of};
 ghost use Rattle.mark.specs.declared.cause.Cause.{Cause};
 ghost use Rattle.display.specs.Marks.{mark_byte};
+ghost use Rattle.display.specs.Sameness.{IsSameness};
 
 use mark::cause::Cause;
 use mark::writing::Mark;
 
-pub trait DisplayKind: Copy {
+// Two displays are the same to whoever looks at the console where they are equal by `==`.
+pub trait DisplayKind: Copy + Eq {
     // what one entry of a table's store is
     type Cell: Copy;
 
     // the kind's name, as it stands in a sheet
     ghost kind: { List ℕ };
-
-    // the two displays are the same to whoever looks at the console
-    ghost alike: { Self → Self → Bool };
 
     // the bytes that stand for a display in a sheet
     ghost marked: { Self → List ℕ };
@@ -32,12 +31,8 @@ pub trait DisplayKind: Copy {
     // what an entry that a store lacks is read as
     ghost zero: { Self };
 
-    // Lent for as long as the caller likes: a `'static` result beside laws had no proof when this was written.
-    fn kind_name<'a>() -> &'a [u8]
+    fn kind_name() -> &'static str
         ensures { result.now ≡ kind };
-
-    fn same(&self, other: &Self) -> bool
-        ensures { result ≡ alike self.now other.now };
 
     fn mark(&self) -> Mark
         ensures { text_of result ≡ marked self.now };
@@ -56,12 +51,6 @@ pub trait DisplayKind: Copy {
 
     ghost named: { is_name kind ≡ true };
 
-    ghost reflexive: { (x : Self) → alike x x ≡ true };
-
-    ghost symmetric: { (x y : Self) → alike x y ≡ true → alike y x ≡ true };
-
-    ghost transitive: { (x y z : Self) → alike x y ≡ true → alike y z ≡ true → alike x z ≡ true };
-
     ghost mark_some: { (x : Self) → 1 ≤ length (marked x) };
 
     ghost mark_short: { (x : Self) → length (marked x) ≤ 8 };
@@ -74,3 +63,15 @@ pub trait DisplayKind: Copy {
 
     ghost keeps: { (x : Self) → stored (cell x) ≡ x };
 }
+
+// Whether two displays are the same to whoever looks at the console.
+pub fn same<D: DisplayKind>(left: &D, right: &D) -> bool
+    ensures { result ≡ D.PartialEq.eq left.now right.now }
+{
+    left == right
+}
+
+// Of each kind, sameness is an equivalence.
+pub fn sameness_is_equivalence<D: DisplayKind>()
+    ensures { IsSameness D.PartialEq.eq }
+{}

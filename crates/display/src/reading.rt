@@ -2,16 +2,13 @@
 ghost use Rattle.std.specs.Prelude.{◌≡◌, true};
 ghost use Rattle.display.specs.Ranges.{in_range};
 
+pub mod convert;
 pub mod kind;
 
-#[derive(Clone, Copy)]
+#[derive(Clone, Copy, PartialEq, Eq, Debug)]
 pub struct Tenths {
     count: i16,
     ghost range: { in_range count ≡ true },
 }
 
-#[derive(Clone, Copy)]
-pub enum Reading {
-    None,
-    Of(Tenths),
-}
+pub type Reading = Option<Tenths>;

@@ -5,7 +5,12 @@ use Rattle.std.proofs.lemmas.Str.Parse.{IsNumeralModel, numerals_by_fold, digits
 use Rattle.std.proofs.lemmas.Bool.{cases_lt}
 use Rattle.std.proofs.lemmas.Bool.Decides.{nat_tests}
 use Rattle.mark.specs.Runs.{each, digit, is_number, number_after, number_in}
-use Rattle.mark.proofs.Scans.{digits_in_number}
+
+digits_in_number : (bs : List ℕ) → is_number bs ≡ true → (0 < length bs) × (length bs ≤ 5) × (each digit bs ≡ true) × (get_or bs 0 0 ≡ 48 → length bs ≡ 1)
+digits_in_number bs e = parts (length bs) (get_or bs 0 0) (each digit bs) e
+  where
+    parts : (n b : ℕ) (rest : Bool) → (leb 1 n && (leb n 5 && ((leb n 1 || not (eqb b 48)) && rest))) ≡ true → (0 < n) × (n ≤ 5) × (rest ≡ true) × (b ≡ 48 → n ≡ 1)
+    parts n b rest h = (grind (arith, nat_tests), grind (arith, nat_tests), grind (arith, nat_tests), λ z. grind (arith, nat_tests))
 
 pub numerals : IsNumeralModel (λ ds. each digit ds ≡ true) (number_after 0)
 numerals = numerals_by_fold _ (search rules) number_after (search rules)

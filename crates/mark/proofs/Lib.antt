@@ -1,4 +1,3 @@
 pub mod Decimals
-pub mod Scans
 pub mod Sorts
 pub mod Writes

@@ -1,10 +1,11 @@
 -- How the decimal texts of numbers are sorted, and what a run is that sorts as one.
-use Rattle.std.proofs.Common.{◌≡◌, ℕ, ◌<◌, Bool, true, false, cond, not, ◌&&◌, eqb, List, [], ◌∷◌, get_or, drop, decimal, ap, arith}
+use Rattle.std.proofs.Common.{◌≡◌, ℕ, ◌<◌, Bool, true, false, cond, not, ◌&&◌, eqb, List, [], ◌∷◌, get_or, drop, Some, decimal, sym, ap, ◌∙◌, arith}
 use Rattle.std.proofs.lemmas.Fmt.{first_decimal}
 use Rattle.std.proofs.lemmas.Bool.{and_from, cond-true}
 use Rattle.std.proofs.lemmas.Bool.Decides.{nat_tests}
-use Rattle.mark.specs.Runs.{is_name, is_number}
-use Rattle.mark.specs.Tokens.{name, number, negative, no_mark, is_negative, sort_of}
+use Rattle.mark.specs.Runs.{is_name, is_number, number_in}
+use Rattle.mark.specs.Tokens.{name, number, negative, no_mark, is_negative, sort_of, sort_in, value_in, value_sorted, IsTokenOf}
+use Rattle.mark.specs.declared.token.Token.{Token}
 use Rattle.mark.proofs.Decimals.{is_number_decimal}
 
 pub sort_decimal : (n : ℕ) → n < 100000 → sort_of (decimal n) ≡ number
@@ -37,3 +38,11 @@ minus_first bs e = parts (get_or bs 0 0) (get_or bs 1 0) (is_number (drop 1 bs))
 pub minus_then : (bs : List ℕ) → get_or bs 0 0 ≡ 45 → bs ≡ 45 ∷ drop 1 bs
 minus_then [] e = absurd (omega arith)
 minus_then (b ∷ bs) e = ap (λ a. a ∷ bs) e
+
+-- what a token that is a number says of its run
+module _ (bs : List ℕ) (at : ℕ) (t : Token) (k : IsTokenOf bs at t) {v : ℕ} where
+  pub number_told : sort_in t ≡ number → value_in t ≡ Some v → (sort_of bs ≡ number) × (number_in bs ≡ Some v)
+  number_told s e = let q : sort_of bs ≡ number = sym k.sort ∙ s in (q, ap (λ x. value_sorted x bs) (sym q) ∙ sym k.value ∙ e)
+
+  pub negative_told : sort_in t ≡ negative → value_in t ≡ Some v → (sort_of bs ≡ negative) × (number_in (drop 1 bs) ≡ Some v)
+  negative_told s e = let q : sort_of bs ≡ negative = sym k.sort ∙ s in (q, ap (λ x. value_sorted x bs) (sym q) ∙ sym k.value ∙ e)

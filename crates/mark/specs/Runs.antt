@@ -1,5 +1,7 @@
 -- Which runs of bytes are names and numbers, and which number a run writes.
-use Rattle.std.specs.Prelude.{◌≡◌, ℕ, ◌+◌, ◌-◌, ◌*◌, ◌<◌, Bool, true, false, cond, not, ◌&&◌, ◌||◌, List, [], ◌∷◌, length, Some, None, decimal, Option, ◌==◌, nat_le, slice_index}
+use Rattle.std.specs.Prelude.{◌≡◌, ℕ, ◌+◌, ◌-◌, ◌*◌, ◌<◌, Bool, cond, not, ◌&&◌, ◌||◌, List, [], ◌∷◌, length, Some, None, decimal, Option, ◌==◌, nat_eq, nat_le, slice_index}
+use Rattle.std.specs.Cmp.Lexicographic.{pointwise}
+use Rattle.std.specs.List.{list_all}
 
 abbrev pub small_letter : ℕ → Bool
 small_letter b = nat_le 97 b && nat_le b 122
@@ -9,14 +11,10 @@ digit b = nat_le 48 b && nat_le b 57
 
 -- the test holds of every byte
 abbrev pub each : (ℕ → Bool) → List ℕ → Bool
-each f [] = true
-each f (b ∷ bs) = f b && each f bs
+each = list_all
 
 abbrev pub same_bytes : List ℕ → List ℕ → Bool
-same_bytes [] [] = true
-same_bytes [] (c ∷ cs) = false
-same_bytes (b ∷ bs) [] = false
-same_bytes (b ∷ bs) (c ∷ cs) = b == c && same_bytes bs cs
+same_bytes = pointwise nat_eq
 
 abbrev pub is_name : List ℕ → Bool
 is_name bs = nat_le 1 (length bs) && (nat_le (length bs) 8 && each small_letter bs)

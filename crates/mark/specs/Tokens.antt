@@ -1,6 +1,6 @@
 -- How a run is sorted, and what a token holds.
-use Rattle.std.specs.Prelude.{ℕ, Bool, cond, not, ◌&&◌, List, drop, ◌==◌, slice_index}
-use Rattle.mark.specs.Runs.{is_name, is_number}
+use Rattle.std.specs.Prelude.{◌≡◌, ℕ, Bool, cond, not, ◌&&◌, List, drop, Some, None, Option, ◌==◌, slice_index}
+use Rattle.mark.specs.Runs.{is_name, is_number, number_in}
 use Rattle.mark.specs.declared.token.Token.{Token}
 use Rattle.mark.specs.declared.token.Token.TheVariants.{Name, Number, Negative}
 
@@ -19,16 +19,39 @@ sort_of bs = cond (is_number bs) number (cond (is_name bs) name (cond (is_negati
 
 abbrev pub sort_in : Token → Sort
 sort_in (Name run at) = name
-sort_in (Number run at) = number
-sort_in (Negative run at) = negative
+sort_in (Number value run at) = number
+sort_in (Negative value run at) = negative
 
 abbrev pub run_in : Token → List ℕ
 run_in (Name run at) = run.now
-run_in (Number run at) = run.now
-run_in (Negative run at) = run.now
+run_in (Number value run at) = run.now
+run_in (Negative value run at) = run.now
 
 -- the offset at which the run begins
 abbrev pub place_in : Token → ℕ
 place_in (Name run at) = at
-place_in (Number run at) = at
-place_in (Negative run at) = at
+place_in (Number value run at) = at
+place_in (Negative value run at) = at
+
+-- the number that the token holds, of a negative one what stands after the minus
+abbrev pub value_in : Token → Option ℕ
+value_in (Name run at) = None
+value_in (Number value run at) = Some value
+value_in (Negative value run at) = Some value
+
+abbrev pub value_sorted : Sort → List ℕ → Option ℕ
+value_sorted name bs = None
+value_sorted number bs = number_in bs
+value_sorted negative bs = number_in (drop 1 bs)
+value_sorted no_mark bs = None
+
+-- the number that a run writes, of a negative one what stands after the minus
+abbrev pub value_of : List ℕ → Option ℕ
+value_of bs = value_sorted (sort_of bs) bs
+
+-- a run at a place as a token: sorted, and read once
+pub record IsTokenOf (bs : List ℕ) (at : ℕ) (t : Token) : Type 0 where
+  pub sort : sort_in t ≡ sort_of bs
+  pub run : run_in t ≡ bs
+  pub place : place_in t ≡ at
+  pub value : value_in t ≡ value_of bs

@@ -1,7 +1,7 @@
 // Tokens: a run of bytes sorted into name, number and negative number.
-ghost use Rattle.std.specs.Prelude.{◌≡◌, ◌&&◌, MatchResult, nat_le};
+ghost use Rattle.std.specs.Prelude.{◌≡◌, ◌&&◌, MatchResult, cond, nat_le, drop, Some, None};
 ghost use Rattle.mark.specs.Runs.{each, is_name, is_number, number_in, NumbersAreDecimals};
-ghost use Rattle.mark.specs.Tokens.{is_negative, sort_of, no_mark, sort_in, run_in, place_in};
+ghost use Rattle.mark.specs.Tokens.{is_negative, sort_of, no_mark, IsTokenOf};
 ghost use Rattle.mark.specs.declared.cause.Cause.TheVariants.{NoMark};
 
 use crate::cause::Cause;
@@ -10,23 +10,29 @@ use crate::cause::Cause;
 #[derive(Clone, Copy)]
 pub enum Token<'a> {
     // 1 to 8 small letters
-    Name { run: &'a [u8], at: usize },
-    // 0, or a digit from 1 to 9 and at most four digits more
-    Number { run: &'a [u8], at: usize },
-    // a minus before such a number other than 0
-    Negative { run: &'a [u8], at: usize },
+    Name {
+        run: &'a [u8],
+        at: usize,
+    },
+    // 0, or a digit from 1 to 9 and at most four digits more, with the number that it writes
+    Number {
+        value: u32,
+        run: &'a [u8],
+        at: usize,
+    },
+    // a minus before such a number other than 0, with the number behind the minus
+    Negative {
+        value: u32,
+        run: &'a [u8],
+        at: usize,
+    },
 }
 
 // Every byte of the run lies from `low` to `high`.
 fn all_between(run: &[u8], low: u8, high: u8) -> bool
     ensures { result ≡ each (λ b. nat_le low b && nat_le b high) run.now }
 {
-    for byte in run {
-        if *byte < low || *byte > high {
-            return false;
-        }
-    }
-    true
+    run.iter().all(|byte| low <= *byte && *byte <= high)
 }
 
 fn is_name(run: &[u8]) -> bool
@@ -38,22 +44,10 @@ fn is_name(run: &[u8]) -> bool
 fn is_number(run: &[u8]) -> bool
     ensures { result ≡ is_number run.now }
 {
-    if run.is_empty() || run.len() > 5 {
-        return false;
+    match run {
+        [] | [b'0', _, ..] => false,
+        _ => run.len() <= 5 && all_between(run, b'0', b'9'),
     }
-    if run.len() > 1 && run[0] == b'0' {
-        return false;
-    }
-    all_between(run, b'0', b'9')
-}
-
-fn is_negative(run: &[u8]) -> bool
-    ensures { result ≡ is_negative run.now }
-{
-    if run.len() < 2 || run[0] != b'-' || run[1] == b'0' {
-        return false;
-    }
-    is_number(&run[1..])
 }
 
 // The number that a run of at most five digits writes.
@@ -70,27 +64,36 @@ pub fn number(run: &[u8]) -> Option<u32>
     Some(value)
 }
 
+// The number behind a minus, other than 0.
+fn negative(run: &[u8]) -> Option<u32>
+    ensures { result ≡ cond (is_negative run.now) (number_in (drop 1 run.now)) None }
+{
+    match run {
+        [b'-', b'0', ..] => None,
+        [b'-', digits @ ..] => number(digits),
+        _ => None,
+    }
+}
+
 impl<'a> Token<'a> {
     // Sorts a run that begins at offset `at`.
     pub fn sort(run: &'a [u8], at: usize) -> Result<Token<'a>, Cause>
-        ensures { MatchResult result (λ t. (sort_in t ≡ sort_of run.now) × ((run_in t ≡ run.now) × (place_in t ≡ at))) (λ e. (e ≡ NoMark) × (sort_of run.now ≡ no_mark)) }
+        ensures { MatchResult result (IsTokenOf run.now at) (λ e. (e ≡ NoMark) × (sort_of run.now ≡ no_mark)) }
     {
-        if is_number(run) {
-            return Ok(Token::Number { run, at });
+        if let Some(value) = number(run) {
+            return Ok(Token::Number { value, run, at });
         }
         if is_name(run) {
             return Ok(Token::Name { run, at });
         }
-        if is_negative(run) {
-            return Ok(Token::Negative { run, at });
+        match negative(run) {
+            Some(value) => Ok(Token::Negative { value, run, at }),
+            None => Err(Cause::NoMark),
         }
-        Err(Cause::NoMark)
     }
 }
 
 // What stands in a sheet for a number below 100,000 is its decimal text and nothing else.
-pub fn numbers_are_decimals() -> bool
+pub fn numbers_are_decimals()
     ensures { NumbersAreDecimals }
-{
-    true
-}
+{}

@@ -3,6 +3,7 @@ ghost use Rattle.std.specs.Prelude.{◌≤◌};
 
 pub mod calls;
 
+// An array with its length, since `ArrayVec` is not `Copy` and an `ArrayString` holds text alone.
 #[derive(Clone, Copy)]
 pub struct Mark {
     bytes: [u8; 8],

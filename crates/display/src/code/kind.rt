@@ -1,7 +1,6 @@
 // The display kind of codes. A store's entry is the number itself.
 ghost use Rattle.std.specs.Prelude.{◌≡◌, refl};
-ghost use Rattle.display.specs.Codes.{CodeSamenessIsEquality, code_kind, code_alike, code_mark, code_from, code_reads, code_stored, code_cell};
-ghost use Rattle.mark.specs.Runs.{number_in};
+ghost use Rattle.display.specs.Codes.{CodeSamenessIsEquality, code_kind, code_mark, code_reads, code_stored, code_cell};
 ghost use Rattle.std.proofs.Common.{arith, rules};
 ghost use Rattle.display.specs.MarksLemmas.{decimal_length, decimal_marks};
 ghost use Rattle.display.specs.CodesLemmas.{codes_read_back, codes_read_alone, code_when_fits};
@@ -9,26 +8,13 @@ ghost use Rattle.display.specs.CodesLemmas.{codes_read_back, codes_read_alone, c
 use crate::code::Code;
 use crate::kind::DisplayKind;
 use mark::cause::Cause;
-use mark::token::{Token, number};
+use mark::token::Token;
 use mark::writing::Mark;
-
-// What a number is read as.
-fn counted(digits: &[u8]) -> Result<Code, Cause>
-    ensures { result ≡ code_from (number_in digits.now) }
-{
-    match number(digits) {
-        None => Err(Cause::NoMark),
-        Some(n) if n < 65536 => Ok(Code { number: n as u16 }),
-        Some(_) => Err(Cause::OutOfRange),
-    }
-}
 
 impl DisplayKind for Code {
     type Cell = u16;
 
     ghost kind = { code_kind };
-
-    ghost alike = { code_alike };
 
     ghost marked = { code_mark };
 
@@ -40,13 +26,7 @@ impl DisplayKind for Code {
 
     ghost zero = { code_stored 0 };
 
-    ghost named = { first_of (Prim.search rules, Prim.grind (arith, Self.row.coded.inj)) };
-
-    ghost reflexive = { first_of (Prim.search rules, Prim.grind (arith, Self.row.coded.inj)) };
-
-    ghost symmetric = { first_of (Prim.search rules, Prim.grind (arith, Self.row.coded.inj)) };
-
-    ghost transitive = { first_of (Prim.search rules, Prim.grind (arith, Self.row.coded.inj)) };
+    ghost named = { refl };
 
     ghost mark_some = { λ x. (decimal_length x.number (omega (arith, x.fits))).0 };
 
@@ -60,17 +40,13 @@ impl DisplayKind for Code {
 
     ghost keeps = { λ x. code_when_fits x.number (λ c. c) _ x refl };
 
-    fn kind_name<'a>() -> &'a [u8] {
-        b"code"
-    }
-
-    fn same(&self, other: &Code) -> bool {
-        other.number == self.number
+    fn kind_name() -> &'static str {
+        "code"
     }
 
     fn mark(&self) -> Mark {
         let mut mark = Mark::new();
-        mark.push_decimal(u32::from(self.number));
+        mark.push_decimal(self.number);
         mark
     }
 
@@ -78,12 +54,12 @@ impl DisplayKind for Code {
         match Token::sort(run, 0)? {
             Token::Name { .. } => Err(Cause::NotDue),
             Token::Negative { .. } => Err(Cause::OutOfRange),
-            Token::Number { run, .. } => counted(run),
+            Token::Number { value, .. } => Code::try_from(value),
         }
     }
 
     fn from_cell(held: u16) -> Code {
-        Code { number: held }
+        Code::from(held)
     }
 
     fn to_cell(&self) -> u16 {
@@ -91,13 +67,11 @@ impl DisplayKind for Code {
     }
 
     fn zero() -> Code {
-        Code { number: 0 }
+        Code::from(0)
     }
 }
 
 // Codes that a console shows alike are one code, and a code is the same as itself.
-pub fn code_sameness_is_equality() -> bool
+pub fn code_sameness_is_equality()
     ensures { CodeSamenessIsEquality }
-{
-    true
-}
+{}

@@ -1,8 +1,9 @@
 // Writing a mark byte by byte, or a number in decimal; reading it back as a slice.
-ghost use Rattle.std.specs.Prelude.{◌≡◌, [], ◌∷◌, ◌++◌, take, decimal};
+ghost use Rattle.std.specs.Prelude.{◌≡◌, [], ◌∷◌, ◌++◌, take};
 ghost use Rattle.mark.specs.Writing.{text_of};
 
 use crate::writing::Mark;
+use itoa::{Buffer, Integer};
 
 impl Mark {
     pub fn new() -> Mark
@@ -17,10 +18,11 @@ impl Mark {
     pub fn text(&self) -> &[u8]
         ensures { result.now ≡ text_of self.now }
     {
-        &self.bytes[0..self.length]
+        &self.bytes[..self.length]
     }
 
     // One byte more; what passes the eighth is left off.
+    #[tactic(auto, using(crate::proofs::Writes::one_more))]
     pub fn push(&mut self, byte: u8)
         ensures { text_of self.new ≡ take 8 (text_of self.old ++ (byte ∷ [])) }
     {
@@ -31,6 +33,7 @@ impl Mark {
     }
 
     // All of `bytes`, as far as there is room.
+    #[tactic(auto, using(crate::proofs::Writes::byte_on, crate::proofs::Writes::all_on))]
     pub fn push_all(&mut self, bytes: &[u8])
         ensures { text_of self.new ≡ take 8 (text_of self.old ++ bytes.now) }
     {
@@ -39,13 +42,10 @@ impl Mark {
         }
     }
 
-    // The number in decimal: its last digit after those of a tenth of it.
-    pub fn push_decimal(&mut self, n: u32)
-        ensures { text_of self.new ≡ take 8 (text_of self.old ++ decimal n) }
+    // The number in decimal: its digits, after a minus where it is below 0.
+    pub fn push_decimal<I: Integer>(&mut self, n: I)
+        ensures { text_of self.new ≡ take 8 (text_of self.old ++ I.text n) }
     {
-        if n >= 10 {
-            self.push_decimal(n / 10);
-        }
-        self.push(b'0' + (n % 10) as u8);
+        self.push_all(Buffer::new().format(n).as_bytes());
     }
 }

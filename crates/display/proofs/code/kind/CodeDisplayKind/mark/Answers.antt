@@ -5,4 +5,4 @@ use Rattle.display.proofs.code.kind.CodeDisplayKind.mark.Goals as goal
 
 pub returns : goal.returns
 returns c =
-    c.push_decimal.ensures ∙ ap (λ l. take 8 (l ++ decimal c.from.result)) c.new-mark.ensures ∙ ap (λ n. take 8 (decimal n)) c.from.ensures ∙ decimal_whole c.args.self.now.number (omega arith)
+    c.push_decimal.ensures ∙ ap (λ l. take 8 (l ++ decimal c.args.self.now.number)) c.new-mark.ensures ∙ decimal_whole c.args.self.now.number (omega arith)
