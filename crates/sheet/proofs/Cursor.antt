@@ -3,7 +3,8 @@ use Rattle.std.proofs.Common.{◌≡◌, ℕ, suc, ◌+◌, ◌<◌, ◌≤◌, 
 use lib.Seq.{sets, length-sets}
 use Rattle.std.proofs.lemmas.List.{set_past}
 use Rattle.std.proofs.lemmas.Bool.{cases_lt}
-use Rattle.sheet.specs.Written.{last_place, Wrote}
+use Rattle.sheet.specs.Written.{last_place, Wrote, Writes}
+use Rattle.sheet.specs.declared.output.Output.{Output}
 
 sets_append : (out : List ℕ) (i : ℕ) (xs ys : List ℕ) → sets (sets out i xs) (i + length xs) ys ≡ sets out i (xs ++ ys)
 sets_append out i [] ys = ap (λ k. sets out k ys) (add-zero i)
@@ -39,14 +40,14 @@ wrote_more {was} {half} {is} {at} {i} {behind} xs ys first second = record {
 pub wrote_as : {was is : List ℕ} {at behind : ℕ} {xs ys : List ℕ} → xs ≡ ys → Wrote was at xs is behind → Wrote was at ys is behind
 wrote_as {was} {is} {at} {behind} same w = subst (λ text. Wrote was at text is behind) same w
 
--- the output and the place behind the text may go by other names
-pub wrote_now : {was is held : List ℕ} {at behind place : ℕ} {text : List ℕ} → held ≡ is → place ≡ behind → Wrote was at text is behind → Wrote was at text held place
-wrote_now e f w = record { room = w.room; place = f ∙ w.place; output = e ∙ w.output }
+-- one text behind the other, in the same lent bytes
+pub writes_more : {was half is : Output} (xs ys : List ℕ) → Writes was xs half → Writes half ys is → Writes was (xs ++ ys) is
+writes_more xs ys first second = record { lent = second.lent ∙ first.lent; wrote = wrote_more xs ys first.wrote second.wrote }
 
--- a word and the byte b behind it, and what follows; the word is written as w and known as word
-module _ {was is : List ℕ} {at behind : ℕ} {w word : List ℕ} (b : ℕ) (known : w ≡ word) where
-  pub word_then : {half : List ℕ} {i : ℕ} (rest : List ℕ) → Wrote was at (w ++ (b ∷ [])) half i → Wrote half i rest is behind → Wrote was at (word ++ (b ∷ rest)) is behind
-  word_then rest first second = wrote_as (append_assoc w (b ∷ []) rest ∙ ap (λ x. x ++ (b ∷ rest)) known) (wrote_more _ _ first second)
+-- the same text, written in another way
+pub writes_as : {was is : Output} {xs ys : List ℕ} → xs ≡ ys → Writes was xs is → Writes was ys is
+writes_as same w = record { lent = w.lent; wrote = wrote_as same w.wrote }
 
-  pub word_last : Wrote was at (w ++ (b ∷ [])) is behind → Wrote was at (word ++ (b ∷ [])) is behind
-  word_last written = wrote_as (ap (λ x. x ++ (b ∷ [])) known) written
+-- a word and the byte b behind it, and what follows
+pub word_then : {was half is : Output} (w : List ℕ) (b : ℕ) (rest : List ℕ) → Writes was (w ++ (b ∷ [])) half → Writes half rest is → Writes was (w ++ (b ∷ rest)) is
+word_then w b rest first second = writes_as (append_assoc w (b ∷ []) rest) (writes_more _ _ first second)

@@ -1,5 +1,6 @@
 -- The flows are read one after the other, each in its turn, and are those of the board.
-use Rattle.std.proofs.Common.{◌≡◌, ℕ, zero, suc, ◌+◌, ◌*◌, ◌/◌, ◌%◌, ◌<◌, ◌≤◌, Bool, true, false, cond, ◌&&◌, ◌||◌, eqb, ltb, leb, List, [], ◌∷◌, ◌++◌, length, Ok, Err, Result, sym, refl, ap, ◌∙◌, subst, arith}
+use Rattle.std.proofs.Common.{◌≡◌, ℕ, zero, suc, ◌+◌, ◌*◌, ◌/◌, ◌%◌, ◌<◌, ◌≤◌, Bool, true, false, cond, ◌&&◌, ◌||◌, eqb, ltb, leb, List, [], ◌∷◌, ◌++◌, length, Ok, Err, Result, sym, refl, ap, ◌∙◌, arith}
+use Rattle.std.proofs.Math.Bool.{or_assoc, or-false, and-or_distrib_left}
 use Rattle.std.proofs.lemmas.Nat.{div-add-mod', div-mul-add, mod-mul-add, mod_below, div_below}
 use Rattle.std.proofs.lemmas.List.{append_assoc, append-nil}
 use Rattle.std.proofs.lemmas.Bool.{lt-ltb, lt-leb, le-leb, and_from, cond-true, cond-false}
@@ -21,16 +22,8 @@ use Rattle.sheet.specs.declared.fault.MarkFault.{MarkFault}
 use Rattle.sheet.specs.declared.fault.SheetFault.{SheetFault}
 
 among_more : (x p : ℕ) (ps : List ℕ) → among x (ps ++ (p ∷ [])) ≡ (among x ps || eqb x p)
-among_more x p [] = by (eqb x p)
-  where
-    by : (b : Bool) → (b || false) ≡ b
-    by true = refl
-    by false = refl
-among_more x p (q ∷ ps) = ap (λ b. eqb x q || b) (among_more x p ps) ∙ by (eqb x q) (among x ps) (eqb x p)
-  where
-    by : (a b c : Bool) → (a || (b || c)) ≡ ((a || b) || c)
-    by true b c = refl
-    by false b c = refl
+among_more x p [] = or-false (eqb x p)
+among_more x p (q ∷ ps) = ap (λ b. eqb x q || b) (among_more x p ps) ∙ sym (or_assoc (eqb x q) (among x ps) (eqb x p))
 
 -- the pair of u and v is p exactly when they are its consoles
 same_pair : (k u v p : ℕ) → 0 < k → (ltb v k && eqb (u * k + v) p) ≡ (eqb u (p / k) && eqb v (p % k))
@@ -45,10 +38,7 @@ same_pair k u v p h =
     parts e = (sym (div-mul-add u k v e.0) ∙ ap (λ n. n / k) e.1, sym (mod-mul-add u k v e.0) ∙ ap (λ n. n % k) e.1)
 
 with_pair : (s v m n e : Bool) → (v && n) ≡ e → ((s || (v && m)) || e) ≡ (s || (v && (m || n)))
-with_pair true v m n e h = refl
-with_pair false true true n e h = refl
-with_pair false true false n e h = sym h
-with_pair false false m n e h = sym h
+with_pair s v m n e h = or_assoc s (v && m) e ∙ ap (λ t. s || t) (ap (λ t. (v && m) || t) (sym h) ∙ sym (and-or_distrib_left v m n))
 
 pub allowed : (k p : ℕ) → 0 < k → p < k * k → allow_answer k (p / k) (p % k) ≡ Ok tt
 allowed k p h l = cond-true _ _ _ (and_from _ _ (lt-ltb (p / k) k (div_below p k k h l)) (lt-ltb (p % k) k (mod_below p k h)))
@@ -78,44 +68,42 @@ lists_none c b consoles commands flows lockouts = record {
 
 -- A row of block 5 was read, or its fault; `may` says whether the pair may come, and `g` is the
 -- fault if it may not.
-module _ {B : Type 0} (line : ℕ) (may : ℕ → Bool) (g : MarkFault) (next : ℕ × ℕ → Result B SheetFault) where
-  goes_on : (F : Result (ℕ × ℕ) MarkFault) (y : ℕ × ℕ) → Ok y ≡ on_line line 5 (on F (λ z. cond (may z.0) (Ok z) (Err g))) → on (on_line line 5 F) (λ z. cond (may z.0) (next z) (on_line line 5 (Err g))) ≡ next y
-  goes_on (Ok z) y e = by (may z.0) e
-    where
-      by : (b : Bool) → Ok y ≡ on_line line 5 (cond b (Ok z) (Err g)) → cond b (next z) (on_line line 5 (Err g)) ≡ next y
-      by true e = let q : z ≡ y = cc in ap next q
-      by false e = let q : ◌≡◌ {A = ℕ} 0 1 = cc in absurd (omega arith)
-  goes_on (Err f) y e = let q : ◌≡◌ {A = ℕ} 0 1 = cc in absurd (omega arith)
+module _ (line : ℕ) (may : ℕ → Bool) (g : MarkFault) where
+  abbrev due : Result (ℕ × ℕ) MarkFault → Result (ℕ × ℕ) SheetFault
+  due F = on_line line 5 (on F (λ z. cond (may z.0) (Ok z) (Err g)))
 
-  stops : (F : Result (ℕ × ℕ) MarkFault) (f : SheetFault) → Err f ≡ on_line line 5 (on F (λ z. cond (may z.0) (Ok z) (Err g))) → on (on_line line 5 F) (λ z. cond (may z.0) (next z) (on_line line 5 (Err g))) ≡ Err f
-  stops (Ok z) f e = by (may z.0) e
+  goes_on : {B : Type 0} (next : ℕ × ℕ → Result B SheetFault) (F : Result (ℕ × ℕ) MarkFault) → on (on_line line 5 F) (λ z. cond (may z.0) (next z) (on_line line 5 (Err g))) ≡ on (due F) next
+  goes_on next (Ok z) = by (may z.0)
     where
-      by : (b : Bool) → Err f ≡ on_line line 5 (cond b (Ok z) (Err g)) → cond b (next z) (on_line line 5 (Err g)) ≡ Err f
-      by true e = let q : ◌≡◌ {A = ℕ} 0 1 = cc in absurd (omega arith)
+      by : (b : Bool) → cond b (next z) (on_line line 5 (Err g)) ≡ on (on_line line 5 (cond b (Ok z) (Err g))) next
+      by true = refl
+      by false = refl
+  goes_on next (Err f) = refl
+
+  stops : {B : Type 0} (F : Result (ℕ × ℕ) MarkFault) (f : SheetFault) → Err f ≡ due F → on {B = B} (on_line line 5 F) (λ z. on_line line 5 (Err g)) ≡ Err f
+  stops {B} (Ok z) f e = by (may z.0) e
+    where
+      by : (b : Bool) → Err f ≡ on_line line 5 (cond b (Ok z) (Err g)) → on_line {A = B} line 5 (Err g) ≡ Err f
+      by true e = grind arith
       by false e = cc
   stops (Err h) f e = cc
 
-  stops_full : (F : Result (ℕ × ℕ) MarkFault) (f : SheetFault) → Err f ≡ on_line line 5 (on F (λ z. cond (may z.0) (Ok z) (Err g))) → on {B = B} (on_line line 5 F) (λ z. on_line line 5 (Err g)) ≡ Err f
-  stops_full (Ok z) f e = by (may z.0) e
-    where
-      by : (b : Bool) → Err f ≡ on_line line 5 (cond b (Ok z) (Err g)) → on_line {A = B} line 5 (Err g) ≡ Err f
-      by true e = let q : ◌≡◌ {A = ℕ} 0 1 = cc in absurd (omega arith)
-      by false e = cc
-  stops_full (Err h) f e = cc
-
 module _ (k : ℕ) (s : List ℕ) (low line i : ℕ) where
-  flows_more : (room : ℕ) (y : ℕ × ℕ) → i < length s → Ok y ≡ on_line line 5 (flow_due k low s i) → flows_at k s (suc room) low line i ≡ on (flows_at k s room (y.0 + 1) (line + 1) y.1) (λ ps. Ok (y.0 ∷ ps))
-  flows_more room y h e =
-      cond-false (leb (length s) i) _ _ (lt-leb (length s) i h)
-      ∙ goes_on line (may_come k low) (mark_fault NotDue i) (λ z. on (flows_at k s room (z.0 + 1) (line + 1) z.1) (λ ps. Ok (z.0 ∷ ps))) (flow_at k s i) y e
+  abbrev here : Result (ℕ × ℕ) SheetFault
+  here = on_line line 5 (flow_due k low s i)
 
-  flows_fault : (room : ℕ) (f : SheetFault) → i < length s → Err f ≡ on_line line 5 (flow_due k low s i) → flows_at k s room low line i ≡ Err f
-  flows_fault zero f h e =
+  abbrev after : ℕ → ℕ × ℕ → Result (List ℕ) SheetFault
+  after room y = on (flows_at k s room (y.0 + 1) (line + 1) y.1) (λ ps. Ok (y.0 ∷ ps))
+
+  flows_next : (room : ℕ) (R : Result (ℕ × ℕ) SheetFault) → i < length s → R ≡ here → flows_at k s (suc room) low line i ≡ on R (after room)
+  flows_next room R h e =
       cond-false (leb (length s) i) _ _ (lt-leb (length s) i h)
-      ∙ stops_full line (may_come k low) (mark_fault NotDue i) (λ z. Ok []) (flow_at k s i) f e
-  flows_fault (suc room) f h e =
-      cond-false (leb (length s) i) _ _ (lt-leb (length s) i h)
-      ∙ stops line (may_come k low) (mark_fault NotDue i) (λ z. on (flows_at k s room (z.0 + 1) (line + 1) z.1) (λ ps. Ok (z.0 ∷ ps))) (flow_at k s i) f e
+      ∙ goes_on line (may_come k low) (mark_fault NotDue i) (after room) (flow_at k s i)
+      ∙ ap (λ r. on r (after room)) (sym e)
+
+  flows_fault : (room : ℕ) (f : SheetFault) → i < length s → Err f ≡ here → flows_at k s room low line i ≡ Err f
+  flows_fault zero f h e = cond-false (leb (length s) i) _ _ (lt-leb (length s) i h) ∙ stops line (may_come k low) (mark_fault NotDue i) (flow_at k s i) f e
+  flows_fault (suc room) f h e = flows_next room (Err f) h e
 
   flows_end : (room : ℕ) → length s ≤ i → flows_at k s room low line i ≡ Ok []
   flows_end zero h = cond-true (leb (length s) i) _ _ (le-leb (length s) i h)
@@ -165,7 +153,7 @@ module _ (c : Counts) (s : List ℕ) (line₀ at₀ : ℕ) where
           rooms = omega arith;
           below = omega arith;
           lines = omega (arith, l.lines);
-          rest = rest ∙ ap (λ R. on R (λ ps. Ok (l.so_far ++ ps))) (flows_more c.consoles s low line at room y h e) ∙ in_front l.so_far y.0 (flows_at c.consoles s room (y.0 + 1) (line + 1) y.1);
+          rest = rest ∙ ap (λ R. on R (λ ps. Ok (l.so_far ++ ps))) (flows_next c.consoles s low line at room (Ok y) h e) ∙ in_front l.so_far y.0 (flows_at c.consoles s room (y.0 + 1) (line + 1) y.1);
         }
 
     pub listing_fault : (f : SheetFault) → at < length s → Err f ≡ on_line line 5 (flow_due c.consoles low s at) → flows_at c.consoles s (c.consoles * c.consoles) 0 line₀ at₀ ≡ Err f
@@ -177,7 +165,7 @@ module _ (c : Counts) (s : List ℕ) (line₀ at₀ : ℕ) where
 -- the board, or the refusal that the fault turns into
 module _ (c : Counts) (r : Result Board Refusal) (W : Result (List ℕ) SheetFault) where
   pub board_refused : (f : SheetFault) → r ≡ Err (refusal_of f) → W ≡ Err f → BoardAs c r W
-  board_refused f e w = subst (λ (t : Result Board Refusal). BoardAs c t W) (sym e) (subst (λ (V : Result (List ℕ) SheetFault). BoardAs c (Err (refusal_of f)) V) (sym w) refl)
+  board_refused f e w = rw e (rw w refl)
 
   pub board_listed : (b : Board) (ps : List ℕ) → r ≡ Ok b → W ≡ Ok ps → Lists c b ps → BoardAs c r W
-  board_listed b ps e w l = subst (λ (t : Result Board Refusal). BoardAs c t W) (sym e) (subst (λ (V : Result (List ℕ) SheetFault). BoardAs c (Ok b) V) (sym w) l)
+  board_listed b ps e w l = rw e (rw w l)

@@ -3,6 +3,7 @@ use Rattle.std.specs.Prelude.{◌≡◌, ℕ, ◌+◌, ◌-◌, ◌*◌, ◌/◌
 use Rattle.std.proofs.lemmas.List.Edits.{sets}
 use Rattle.theory.specs.Control.{ControlValue}
 use Rattle.sheet.specs.Plan.{tabulate, Row, owner, step, shown}
+use Rattle.sheet.specs.declared.output.Output.{Output}
 
 -- a place stays at the last number that there is, past every output
 abbrev pub last_place : ℕ
@@ -14,6 +15,11 @@ pub record Wrote (was : List ℕ) (at : ℕ) (text is : List ℕ) (behind : ℕ)
   pub room : length was ≤ last_place
   pub place : behind ≡ min (at + length text) last_place
   pub output : is ≡ sets was at text
+
+-- The text was written at the place that the output had come to. It lies in the same lent bytes.
+pub record Writes (was : Output) (text : List ℕ) (is : Output) : Type 0 where
+  pub lent : is.bytes.ghost_name ≡ was.bytes.ghost_name
+  pub wrote : Wrote was.bytes.now was.at text is.bytes.now is.at
 
 -- row r of block 3 and of block 4, and all rows of blocks 2 to 4, as the plan has them
 module _ {D : Type 0} (v : ControlValue D) where

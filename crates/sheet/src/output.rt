@@ -1,49 +1,49 @@
-// A lent output, written place by place: what passes its end is left off and still counted.
-ghost use Rattle.std.specs.Prelude.{[], ◌∷◌, ◌++◌, decimal};
-ghost use Rattle.sheet.specs.Written.{Wrote};
+// A lent output, written from its front: what passes its end is left off and still counted.
+ghost use Rattle.std.specs.Prelude.{◌∷◌, [], ◌++◌, decimal};
 
-// One byte, and the place behind it. A place never wraps: it stays at the last number that there is.
-fn push(out: &mut [u8], at: usize, byte: u8) -> usize
-    ensures { Wrote out.old at (byte ∷ []) out.new result }
-{
-    if at < out.len() {
-        out[at] = byte;
+use itoa::Buffer;
+
+// Methods that cannot fail, and no `fmt::Write`: `write!` says what it wrote where it ends in `Ok`,
+// and not that it does, and the writer's answer has no such error.
+#[derive(Drop)]
+pub(crate) struct Output<'a> {
+    pub(crate) bytes: &'a mut [u8],
+    // how many bytes were written; past the last number that there is the count stays there
+    pub(crate) at: usize,
+}
+
+impl Output<'_> {
+    ghost use Rattle.sheet.specs.Written.{Writes};
+
+    fn push(&mut self, byte: u8)
+        ensures { Writes self.old (byte ∷ []) self.new }
+    {
+        if self.at < self.bytes.len() {
+            self.bytes[self.at] = byte;
+        }
+        self.at = self.at.saturating_add(1);
     }
-    at.saturating_add(1)
-}
 
-pub(crate) fn push_all(out: &mut [u8], mut at: usize, bytes: &[u8]) -> usize
-    ensures { Wrote out.old at bytes.now out.new result }
-{
-    for byte in bytes {
-        at = push(out, at, *byte);
+    pub(crate) fn text(&mut self, bytes: &[u8])
+        ensures { Writes self.old bytes.now self.new }
+    {
+        for byte in bytes {
+            self.push(*byte);
+        }
     }
-    at
-}
 
-// The number in decimal: its last digit after those of a tenth of it.
-fn push_decimal(out: &mut [u8], at: usize, n: usize) -> usize
-    ensures { Wrote out.old at (decimal n) out.new result }
-{
-    if n < 10 {
-        return push(out, at, b'0' + n as u8);
+    // A word of a line, and the byte that parts it from what comes next.
+    pub(crate) fn word(&mut self, bytes: &[u8], next: u8)
+        ensures { Writes self.old (bytes.now ++ (next ∷ [])) self.new }
+    {
+        self.text(bytes);
+        self.push(next);
     }
-    let front = push_decimal(out, at, n / 10);
-    push(out, front, b'0' + (n % 10) as u8)
-}
 
-// A word of a line, and the byte that parts it from what comes next.
-pub(crate) fn word(out: &mut [u8], at: usize, bytes: &[u8], next: u8) -> usize
-    ensures { Wrote out.old at (bytes.now ++ (next ∷ [])) out.new result }
-{
-    let behind = push_all(out, at, bytes);
-    push(out, behind, next)
-}
-
-// The same for a number in decimal.
-pub(crate) fn number(out: &mut [u8], at: usize, n: usize, next: u8) -> usize
-    ensures { Wrote out.old at (decimal n ++ (next ∷ [])) out.new result }
-{
-    let behind = push_decimal(out, at, n);
-    push(out, behind, next)
+    // The same for a number in decimal.
+    pub(crate) fn number(&mut self, n: usize, next: u8)
+        ensures { Writes self.old (decimal n ++ (next ∷ [])) self.new }
+    {
+        self.word(Buffer::new().format(n).as_bytes(), next);
+    }
 }

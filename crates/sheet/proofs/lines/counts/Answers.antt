@@ -1,12 +1,12 @@
-use Rattle.std.proofs.Common.{decimal, ap}
-use Rattle.sheet.specs.Marks.{blank, newline}
-use Rattle.sheet.proofs.Cursor.{word_then, word_last}
+use Rattle.std.proofs.Common.{refl}
+use Rattle.sheet.specs.Marks.{blank}
+use Rattle.sheet.proofs.Cursor.{word_then, writes_as}
 use Rattle.sheet.proofs.lines.counts.Goals as goal
 
 pub returns : goal.returns
 returns g c =
-    word_then blank (ap decimal c.states.ensures.value) _ c.number-at.ensures
-    (word_then blank (ap decimal c.commands.ensures.value) _ c.number-at-2.ensures
-    (word_then blank (ap decimal c.consoles.ensures.value) _ c.number-at-3.ensures
-    (word_then blank (ap decimal c.start.ensures.value) _ c.number-at-4.ensures
-    (word_last newline c.kind_name.ensures c.word.ensures))))
+    writes_as (simp (c.states.ensures.value, c.commands.ensures.value, c.consoles.ensures.value, c.start.ensures.value, c.kind_name.ensures) refl)
+    (word_then _ blank _ c.number.ensures
+    (word_then _ blank _ c.number-2.ensures
+    (word_then _ blank _ c.number-3.ensures
+    (word_then _ blank _ c.number-4.ensures c.word.ensures))))

@@ -1,19 +1,13 @@
-use Rattle.std.proofs.Common.{◌≡◌, ℕ, ◌*◌, ◌/◌, ◌%◌, ◌<◌, decimal, ap, ◌∙◌, ap₂, arith}
-use Rattle.sheet.specs.Marks.{blank, newline}
-use Rattle.sheet.specs.Written.{step_row}
-use Rattle.sheet.proofs.Cursor.{wrote_more, wrote_as, word_then, word_last}
-use Rattle.sheet.proofs.Blocks.{entry_within, rows_more}
+use Rattle.std.proofs.Common.{◌<◌, decimal, refl, ap, ◌∙◌, arith}
+use Rattle.sheet.specs.Plan.{step}
+use Rattle.sheet.proofs.Blocks.{entry_within, entry_written}
 use Rattle.sheet.proofs.lines.steps.Goals as goal
 
-pub loop-row-preserved : goal.loop-row-preserved
-loop-row-preserved g c =
+pub loop-command-preserved : goal.loop-command-preserved
+loop-command-preserved g c =
     let v = g.C.Control.value c.args.control.now in
-    let n : ℕ = c.loop-row.row in
-    let width : c.commands-commands.result ≡ v.commands = c.commands-commands.ensures.value in
-    let within : n < v.states * v.commands = omega (arith, ap₂ ◌*◌ c.states.ensures.value width, c.loop-row-test.true) in
-    let stepped : c.next.result ≡ v.step (n / v.commands) (n % v.commands) = c.next.ensures.value ∙ entry_within v.step v.states v.commands _ n width (g.C.Control.lawful c.args.control.now).commands_count.0 within in
-    wrote_as (rows_more g.C.Display.DisplayKind.kind g.C.Display.DisplayKind.marked v (step_row v) n)
-    (wrote_more _ _ c.loop-row.invariant
-    (word_then blank (ap (λ m. decimal (n / m)) width) _ c.number-at.ensures
-    (word_then blank (ap (λ m. decimal (n % m)) width) _ c.number-at-in-loop-row.ensures
-    (word_last newline (ap decimal stepped) c.number-at-in-loop-row-2.ensures))))
+    let state : c.loop-state.state < v.states = omega (arith, c.states-state-end.ensures.value, c.loop-state-test.true) in
+    let command : c.loop-command.command < v.commands = omega (arith, c.commands-command-end.ensures.value, c.loop-command-test.true) in
+    let next = c.next.ensures.value ∙ entry_within v.step v.states v.commands _ _ state command in
+    entry_written g.C.Display.DisplayKind.kind g.C.Display.DisplayKind.marked v step v.commands _ _ command (ap decimal next) refl
+    c.loop-command.invariant c.number.ensures c.number-in-loop-command.ensures c.number-in-loop-command-2.ensures

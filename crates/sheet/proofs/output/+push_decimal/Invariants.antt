@@ -1,5 +1,0 @@
--- Each call is made of a smaller number.
-use Rattle.sheet.proofs.output.+push_decimal.Given as goal
-
-abbrev pub decreases-push_decimal : goal.decreases-push_decimal
-decreases-push_decimal l = l.n

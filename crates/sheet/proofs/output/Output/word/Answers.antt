@@ -1,0 +1,5 @@
+use Rattle.sheet.proofs.Cursor.{writes_more}
+use Rattle.sheet.proofs.output.Output.word.Goals as goal
+
+pub returns : goal.returns
+returns c = writes_more _ _ c.text.ensures c.push.ensures
