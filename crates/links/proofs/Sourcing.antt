@@ -22,7 +22,8 @@ added_where_affecting F w self s false e =
 
 module _ {k n : ℕ} {F : Flow} {owner : ℕ → ℕ} {u : ℕ} (setting : Setting k n F owner u) where
   -- a command is kept where its console may affect a source of what follows
-  purge_step : (a : ℕ) (r : List ℕ) → a < n → intransitive_purge F owner u (a ∷ r) ≡ cond (some_of (F (owner a)) (sources F owner u r)) (a ∷ intransitive_purge F owner u r) (intransitive_purge F owner u r)
+  purge_step : (a : ℕ) (r : List ℕ) → a < n
+      → intransitive_purge F owner u (a ∷ r) ≡ cond (some_of (F (owner a)) (sources F owner u r)) (a ∷ intransitive_purge F owner u r) (intransitive_purge F owner u r)
   purge_step a r below =
       let w = owner a in
       let s = sources F owner u r in
@@ -49,7 +50,8 @@ module _ {k n : ℕ} {F : Flow} {owner : ℕ → ℕ} {u : ℕ} (setting : Setti
       ]
 
   -- a console of which a command may be dropped affects no source of what follows
-  affects_no_source : (w : ℕ) (r : List ℕ) → intransitive_purge_meaning.drop F u w ≡ true → All (λ c. intransitive_purge_meaning.after_drop F u w (owner c) ≡ true) r → some_of (F w) (sources F owner u r) ≡ false
+  affects_no_source : (w : ℕ) (r : List ℕ) → intransitive_purge_meaning.drop F u w ≡ true
+      → All (λ c. intransitive_purge_meaning.after_drop F u w (owner c) ≡ true) r → some_of (F w) (sources F owner u r) ≡ false
   affects_no_source w r dropped after =
       all_fail (F w) (sources F owner u r)
       (all_of_sources (λ x. F w x ≡ false) (not-true (F w u) dropped) r (all_map (λ c. not-true (F w (owner c))) r after))
@@ -77,6 +79,7 @@ module _ {k n : ℕ} {F : Flow} {owner : ℕ → ℕ} {u : ℕ} (setting : Setti
 pub intransitive_purge_laws : MeaningLaws intransitive_purge_meaning
 intransitive_purge_laws =
     laws
-    (selecting_faithful intransitive_purge_meaning intransitive_purge (λ F owner u a r. some_of (F (owner a)) (sources F owner u r)) intransitive_purge_alike (λ k n F owner u setting. selects setting))
+    (selecting_faithful intransitive_purge_meaning intransitive_purge
+    (λ F owner u a r. some_of (F (owner a)) (sources F owner u r)) intransitive_purge_alike (λ k n F owner u setting. selects setting))
     intransitive_purge_questions
     intransitive_purge_evenhanded

@@ -22,7 +22,8 @@ module _ (F : Flow) (owner : ℕ → ℕ) where
       hears_all_agrees (hears F owner f c) (hears F owner g c) u r (hears_agrees f g c u at-u h.0) (all_map (λ d e. hears_agrees f g c (owner d) e h.0) r h.1)
 
   -- Neighbours may be exchanged where neither giver may affect the other and not both may affect the console.
-  pub exchange_agrees : (f : ℕ → Told) (a b z : ℕ) → F (owner a) (owner b) ≡ false → F (owner b) (owner a) ≡ false → both F (owner a) (owner b) z ≡ false → hears F owner (hears F owner f a) b z ≡ hears F owner (hears F owner f b) a z
+  pub exchange_agrees : (f : ℕ → Told) (a b z : ℕ) → F (owner a) (owner b) ≡ false → F (owner b) (owner a) ≡ false → both F (owner a) (owner b) z ≡ false
+      → hears F owner (hears F owner f a) b z ≡ hears F owner (hears F owner f b) a z
   exchange_agrees f a b z ab ba not_both = grind arith
 
   -- what a yes to the exchange question says

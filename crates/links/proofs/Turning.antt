@@ -49,7 +49,8 @@ module _ (F : Flow) (owner : ℕ → ℕ) where
   turned_ta p u = knows_ta (onto p []) [] u ∙ ap (ta F owner u) (turned_back p)
 
   -- what holds of a console that hears one more command, and of one that does not
-  pub one_more : (b : ℕ) (s : List ℕ) (x : ℕ) (P : Told → Type 0) → (F (owner b) x ≡ true → P (told (knows F owner s x) (knows F owner s (owner b)) b)) → (F (owner b) x ≡ false → P (knows F owner s x)) → P (knows F owner (b ∷ s) x)
+  pub one_more : (b : ℕ) (s : List ℕ) (x : ℕ) (P : Told → Type 0)
+      → (F (owner b) x ≡ true → P (told (knows F owner s x) (knows F owner s (owner b)) b)) → (F (owner b) x ≡ false → P (knows F owner s x)) → P (knows F owner (b ∷ s) x)
   one_more b s x = cond_both (F (owner b) x) (told (knows F owner s x) (knows F owner s (owner b)) b) (knows F owner s x)
 
   pub knows_told : (b : ℕ) (s : List ℕ) (x : ℕ) → F (owner b) x ≡ true → knows F owner (b ∷ s) x ≡ told (knows F owner s x) (knows F owner s (owner b)) b
