@@ -2,7 +2,7 @@
 use Rattle.std.proofs.Common.{◌≡◌, ℕ, ◌<◌, true, false, List, [], ◌∷◌, ap, ◌∙◌, subst, inl, inr, arith}
 use Rattle.std.proofs.lemmas.Bool.{not_from_false, and_parts, or_right, ne_eqb, cases_Bool}
 use Rattle.theory.specs.Flows.{Flow}
-use Rattle.links.specs.Sequences.{All, some_of}
+use Rattle.links.specs.Sequences.{Every, some_of}
 use Rattle.links.specs.Transmitted.{Told}
 use Rattle.links.specs.Links.{drops, exchanges, Linked, done, there}
 use Rattle.links.specs.Laws.{Setting}
@@ -19,7 +19,7 @@ module _ {k n : ℕ} {F : Flow} {owner : ℕ → ℕ} {u : ℕ} (setting : Setti
 
   -- P holds of each console watched before r
   abbrev Each : (ℕ → Type 0) → List ℕ → Type 0
-  Each P r = All P (watched owner u r)
+  Each P r = Every P (watched owner u r)
 
   -- some console watched before r may be affected by the giver of c
   abbrev Heard : ℕ → List ℕ → Type 0
