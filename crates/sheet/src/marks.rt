@@ -91,7 +91,7 @@ fn number_in(run: &[u8], at: usize, least: usize, most: usize) -> Result<usize, 
             cause: Cause::OutOfRange,
             place: at,
         }),
-        Token::Number { run, at } => match number(run) {
+        Token::Number { run, at, .. } => match number(run) {
             None => Err(MarkFault {
                 cause: Cause::NoMark,
                 place: at,
@@ -110,7 +110,7 @@ fn exact_in(run: &[u8], at: usize, due: usize) -> Result<usize, MarkFault>
     ensures { result ≡ placed at (exact_reads due run.now) }
 {
     match numbered(Token::sort(run, at), at)? {
-        Token::Number { run, at } => match number(run) {
+        Token::Number { run, at, .. } => match number(run) {
             None => Err(MarkFault {
                 cause: Cause::NoMark,
                 place: at,

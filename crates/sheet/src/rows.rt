@@ -153,7 +153,7 @@ pub(crate) fn counts_row<D: DisplayKind>(
     let (commands, at) = marks::ranged(sheet, at, 1, 24, b' ')?;
     let (consoles, at) = marks::ranged(sheet, at, 1, 12, b' ')?;
     let (start, at) = marks::ranged(sheet, at, 0, states - 1, b' ')?;
-    let ((), at) = marks::name(sheet, at, D::kind_name(), b'\n')?;
+    let ((), at) = marks::name(sheet, at, D::kind_name().as_bytes(), b'\n')?;
     let counts = Counts {
         states,
         commands,

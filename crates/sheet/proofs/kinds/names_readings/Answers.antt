@@ -1,13 +1,10 @@
-use Rattle.std.proofs.Common.{◌≡◌, codes, sym, ap, ◌∙◌, subst, arith}
-use Rattle.std.specs.Bool.{Decides}
+-- The row of the counts is tested, and then the name that stands at the place.
+use Rattle.std.proofs.Common.{codes, sym, ap, ◌∙◌, arith}
 use Rattle.std.specs.List.{between}
-use Rattle.std.proofs.lemmas.Slice.Eq.{slice_eq-Decides}
 use Rattle.mark.specs.Runs.{same_bytes}
-use Rattle.display.specs.ReadingsLemmas.{told_as_bytes}
 use Rattle.sheet.specs.Kinds.{readings_named}
 use Rattle.sheet.proofs.Naming.{otherwise, by_its_run}
 use Rattle.sheet.proofs.kinds.names_readings.Goals as goal
-use Rattle.std.proofs.lemmas.Bool.Decides.{Decides-eqb}
 
 pub returns-then-told-ne4 : goal.returns-then-told-ne4
 returns-then-told-ne4 c =
@@ -20,7 +17,8 @@ returns c =
     let sheet = c.args.sheet.now in
     let t = c.told-told.result in
     let run = between t.place c.run_end.result sheet in
-    sym (told_as_bytes run (codes "reading") _ (subst (λ y. Decides c.eq.result (run ≡ y)) c.as_slice.ensures (slice_eq-Decides Decides-eqb run _ _ c.eq.ensures)))
+    c.eq.ensures
+    ∙ ap (same_bytes run) c.as_slice.ensures
     ∙ ap (λ run. same_bytes run (codes "reading")) c.run_end.ensures.run
     ∙ by_its_run sheet t (omega arith) (omega arith) (omega arith)
     ∙ ap (readings_named sheet) c.told-told.ensures
