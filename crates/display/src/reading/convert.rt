@@ -8,6 +8,7 @@ use mark::cause::Cause;
 
 // The range of a reading, in tenths of a degree Celsius.
 const LEAST: i64 = -1200;
+
 const MOST: i64 = 1200;
 
 impl TryFrom<i64> for Tenths {
