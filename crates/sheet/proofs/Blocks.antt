@@ -1,5 +1,5 @@
 -- The rows of a block, one after the other: what one row more adds to the text of the rows so far.
-use Rattle.std.proofs.Common.{◌≡◌, ℕ, zero, suc, ◌+◌, ◌*◌, ◌/◌, ◌%◌, ◌<◌, Bool, true, false, cond, not, ◌&&◌, eqb, ltb, List, [], ◌∷◌, ◌++◌, decimal, sym, refl, ap, ◌∙◌, ap₂, append_assoc, add-zero, add-one, arith}
+use Rattle.std.proofs.Common.{◌≡◌, ℕ, zero, suc, ◌+◌, ◌*◌, ◌/◌, ◌%◌, ◌<◌, Bool, true, false, cond, not, ◌&&◌, eqb, ltb, List, [], ◌∷◌, ◌++◌, decimal, sym, refl, ap, ◌∙◌, ap₂, append_assoc, add-zero, zero-add, add-one, arith}
 use Rattle.std.proofs.lemmas.Nat.{div-mul-add, mod-mul-add}
 use Rattle.std.proofs.lemmas.List.{append-nil}
 use Rattle.std.proofs.lemmas.Bool.{lt-ltb, ne_eqb, cond-true}
@@ -11,7 +11,7 @@ use Rattle.sheet.specs.Plan.{tabulate, Row}
 use Rattle.sheet.specs.Text.{line_of, row_text, rows_text, listed, pairs_kept, flows_text}
 use Rattle.sheet.specs.Written.{Writes}
 use Rattle.sheet.specs.declared.output.Output.{Output}
-use Rattle.sheet.proofs.Cursor.{writes_more, writes_as, word_then}
+use Rattle.sheet.proofs.Writing.{writes_more, writes_as, word_then}
 
 -- a number in range is read as it is
 pub number_within : (count n : ℕ) → n < count → number_read count n ≡ n
@@ -27,6 +27,10 @@ tabulate_more i (suc n) f =
     let next : (i + 1) + n ≡ i + suc n = omega arith in
     ap (λ l. f i ∷ l) (tabulate_more (i + 1) n f ∙ ap (λ k. tabulate (i + 1) n f ++ (f k ∷ [])) next)
 
+-- one number more
+tabulate_next : {A : Type 0} (f : ℕ → A) (n : ℕ) → tabulate 0 (n + 1) f ≡ tabulate 0 n f ++ (f n ∷ [])
+tabulate_next f n = ap (λ k. tabulate 0 k f) (add-one n) ∙ tabulate_more 0 n f ∙ ap (λ k. tabulate 0 n f ++ (f k ∷ [])) (zero-add n)
+
 module _ {D : Type 0} (kind : List ℕ) (mark : D → List ℕ) (v : ControlValue D) where
   rows_append : (rs ts : List Row) → rows_text kind mark v (rs ++ ts) ≡ rows_text kind mark v rs ++ rows_text kind mark v ts
   rows_append [] ts = refl
@@ -34,10 +38,9 @@ module _ {D : Type 0} (kind : List ℕ) (mark : D → List ℕ) (v : ControlValu
 
   pub rows_more : (f : ℕ → Row) (n : ℕ) → rows_text kind mark v (tabulate 0 n f) ++ row_text kind mark v (f n) ≡ rows_text kind mark v (tabulate 0 (n + 1) f)
   rows_more f n =
-      let first : 0 + n ≡ n = omega arith in
-      ap (λ l. rows_text kind mark v (tabulate 0 n f) ++ l) (sym (append-nil (row_text kind mark v (f n))) ∙ ap (λ k. row_text kind mark v (f k) ++ []) (sym first))
-      ∙ sym (rows_append (tabulate 0 n f) (f (0 + n) ∷ []))
-      ∙ ap (rows_text kind mark v) (sym (tabulate_more 0 n f) ∙ ap (λ k. tabulate 0 k f) (sym (add-one n)))
+      ap (λ l. rows_text kind mark v (tabulate 0 n f) ++ l) (sym (append-nil (row_text kind mark v (f n))))
+      ∙ sym (rows_append (tabulate 0 n f) (f n ∷ []))
+      ∙ ap (rows_text kind mark v) (sym (tabulate_next f n))
 
   -- blocks one after the other, each with a row of its own at its head
   pub blocks_text : (r2 r3 r4 r5 : Row) (a b c : List Row) (rest : List ℕ)
@@ -84,11 +87,8 @@ module _ (f : ℕ → Bool) (k : ℕ) where
 
   passed_more : (n : ℕ) → passed n ++ flows_text k (cond (f n) (n ∷ []) []) ≡ passed (n + 1)
   passed_more n =
-      let first : 0 + n ≡ n = omega arith in
       sym (flows_append (pairs_kept f (tabulate 0 n (λ p. p))) (cond (f n) (n ∷ []) []))
-      ∙ ap (flows_text k)
-      (sym (kept_append (tabulate 0 n (λ p. p)) (n ∷ []))
-      ∙ ap (pairs_kept f) (ap (λ p. tabulate 0 n (λ q. q) ++ (p ∷ [])) (sym first) ∙ sym (tabulate_more 0 n (λ p. p)) ∙ ap (λ j. tabulate 0 j (λ p. p)) (sym (add-one n))))
+      ∙ ap (flows_text k) (sym (kept_append (tabulate 0 n (λ p. p)) (n ∷ [])) ∙ ap (pairs_kept f) (sym (tabulate_next (λ p. p) n)))
 
 -- the flow from one of k consoles to another, behind the pairs before it
 module _ (F : Flow) (k from to : ℕ) (within : to < k) where

@@ -1,5 +1,4 @@
 pub mod Blocks
-pub mod Cursor
 pub mod Cuts
 pub mod Dues
 pub mod ExactBlocks
@@ -20,3 +19,4 @@ pub mod Passed
 pub mod SheetLengths
 pub mod Steps
 pub mod Whole
+pub mod Writing

@@ -13,7 +13,7 @@ use Rattle.sheet.specs.Text.{sheet_text}
 use Rattle.sheet.specs.Calls.{overwritten, write_answer, output_after}
 use Rattle.sheet.specs.Written.{last_place, Wrote}
 use Rattle.sheet.proofs.SheetLengths.{all_fit}
-use Rattle.sheet.proofs.Cursor.{wrote_as}
+use Rattle.sheet.proofs.Writing.{wrote_as}
 
 passed_check : (b : Bool) (x : Unit {0}) → ◌≡◌ {A = Result (Unit {0}) Refusal} (Ok x) (cond b (Ok tt) (Err CountsDiffer)) → b ≡ true
 passed_check b x e = grind arith

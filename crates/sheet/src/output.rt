@@ -3,8 +3,7 @@ ghost use Rattle.std.specs.Prelude.{◌∷◌, [], ◌++◌, decimal};
 
 use itoa::Buffer;
 
-// Methods that cannot fail, and no `fmt::Write`: `write!` says what it wrote where it ends in `Ok`,
-// and not that it does, and the writer's answer has no such error.
+// No `fmt::Write`: `write!` may end in an error by its contract, and the writer's answer has none.
 #[derive(Drop)]
 pub(crate) struct Output<'a> {
     pub(crate) bytes: &'a mut [u8],

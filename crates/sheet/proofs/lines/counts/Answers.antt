@@ -1,7 +1,7 @@
 -- The counts and the name, word after word.
 use Rattle.std.proofs.Common.{refl}
 use Rattle.sheet.specs.Marks.{blank}
-use Rattle.sheet.proofs.Cursor.{word_then, writes_as}
+use Rattle.sheet.proofs.Writing.{word_then, writes_as}
 use Rattle.sheet.proofs.lines.counts.Goals as goal
 
 pub returns : goal.returns

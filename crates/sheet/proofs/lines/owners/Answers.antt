@@ -2,7 +2,7 @@ use Rattle.std.proofs.Common.{◌≡◌, ℕ, ◌<◌, ◌∷◌, [], decimal, a
 use Rattle.sheet.specs.Marks.{blank}
 use Rattle.sheet.specs.Plan.{owner}
 use Rattle.sheet.specs.Text.{line_of}
-use Rattle.sheet.proofs.Cursor.{writes_more, writes_as, word_then}
+use Rattle.sheet.proofs.Writing.{writes_more, writes_as, word_then}
 use Rattle.sheet.proofs.Blocks.{number_within, rows_more}
 use Rattle.sheet.proofs.lines.owners.Goals as goal
 

@@ -3,7 +3,7 @@ use Rattle.policy.specs.Flows.{may_affect}
 use Rattle.sheet.specs.Plan.{counts_title, owners_title, steps_title, displays_title, flows_title}
 use Rattle.sheet.specs.Text.{row_text, counts_text, flows_text, flow_pairs}
 use Rattle.sheet.specs.Written.{owner_rows, step_rows, display_rows}
-use Rattle.sheet.proofs.Cursor.{writes_more, writes_as}
+use Rattle.sheet.proofs.Writing.{writes_more, writes_as}
 use Rattle.sheet.proofs.Blocks.{blocks_text}
 use Rattle.sheet.proofs.writer.blocks.Goals as goal
 

@@ -1,6 +1,6 @@
 use Rattle.std.proofs.Common.{sym}
 use Rattle.std.proofs.lemmas.List.{take_more}
-use Rattle.sheet.proofs.Cursor.{writes_more, writes_as}
+use Rattle.sheet.proofs.Writing.{writes_more, writes_as}
 use Rattle.sheet.proofs.output.Output.text.Goals as goal
 
 pub loop-byte-preserved : goal.loop-byte-preserved

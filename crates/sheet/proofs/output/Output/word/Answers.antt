@@ -1,4 +1,4 @@
-use Rattle.sheet.proofs.Cursor.{writes_more}
+use Rattle.sheet.proofs.Writing.{writes_more}
 use Rattle.sheet.proofs.output.Output.word.Goals as goal
 
 pub returns : goal.returns
