@@ -1,3 +1,4 @@
+-- The line of one state and console more is written.
 use Rattle.std.proofs.Common.{◌<◌, refl, ap, ◌∙◌, arith}
 use Rattle.sheet.specs.Plan.{shown}
 use Rattle.sheet.proofs.Blocks.{entry_within, entry_written}

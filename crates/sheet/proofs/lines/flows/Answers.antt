@@ -1,3 +1,4 @@
+-- One pair of consoles more is passed, and its line is written where it is a flow.
 use Rattle.std.proofs.Common.{◌<◌, ◌&&◌, not, sym, ap, ◌∙◌, arith}
 use Rattle.std.proofs.lemmas.Bool.{eq-eqb, and_right}
 use Rattle.policy.specs.Flows.{may_affect}

@@ -1,3 +1,4 @@
+-- One command's line more is written.
 use Rattle.std.proofs.Common.{◌≡◌, ℕ, ◌<◌, ◌∷◌, [], decimal, ap, ◌∙◌, arith}
 use Rattle.sheet.specs.Marks.{blank}
 use Rattle.sheet.specs.Plan.{owner}

@@ -1,3 +1,4 @@
+-- The line of one state and command more is written.
 use Rattle.std.proofs.Common.{◌<◌, decimal, refl, ap, ◌∙◌, arith}
 use Rattle.sheet.specs.Plan.{step}
 use Rattle.sheet.proofs.Blocks.{entry_within, entry_written}

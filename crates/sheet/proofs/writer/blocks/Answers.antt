@@ -1,3 +1,4 @@
+-- Block after block, each behind its names, is the text of the sheet.
 use Rattle.std.proofs.Common.{◌++◌, sym, ap}
 use Rattle.policy.specs.Flows.{may_affect}
 use Rattle.sheet.specs.Plan.{counts_title, owners_title, steps_title, displays_title, flows_title}

@@ -1,3 +1,4 @@
+-- What the writer answers follows from what was counted and written.
 use Rattle.std.proofs.Common.{ap}
 use Rattle.policy.specs.Board.{value_of}
 use Rattle.policy.specs.Flows.{may_affect}

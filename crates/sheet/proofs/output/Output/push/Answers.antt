@@ -1,3 +1,4 @@
+-- The byte stands at its place, or is left off behind the end.
 use Rattle.std.proofs.Common.{min, ◌+◌, sym, ◌∙◌, ap, arith}
 use Rattle.sheet.specs.Written.{last_place}
 use Rattle.std.proofs.lemmas.List.{set_past}

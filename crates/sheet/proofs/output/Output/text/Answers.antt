@@ -1,3 +1,4 @@
+-- One byte more is written behind the first ones.
 use Rattle.std.proofs.Common.{sym}
 use Rattle.std.proofs.lemmas.List.{take_more}
 use Rattle.sheet.proofs.Writing.{writes_more, writes_as}

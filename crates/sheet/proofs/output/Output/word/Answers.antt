@@ -1,3 +1,4 @@
+-- A word and the byte behind it are one text.
 use Rattle.sheet.proofs.Writing.{writes_more}
 use Rattle.sheet.proofs.output.Output.word.Goals as goal
 
