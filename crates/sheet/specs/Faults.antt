@@ -2,15 +2,20 @@
 use Rattle.std.specs.Prelude.{ℕ, Ok, Err, Result}
 use Rattle.mark.specs.declared.cause.Cause.{Cause}
 use Rattle.sheet.specs.declared.fault.MarkFault.{MarkFault}
+use Rattle.sheet.specs.declared.fault.RowFault.{RowFault}
 use Rattle.sheet.specs.declared.fault.SheetFault.{SheetFault}
 
 -- a cause at a byte offset
 abbrev pub mark_fault : Cause → ℕ → MarkFault
 mark_fault c i = record { cause = c; place = i }
 
--- the same on a line, counted from 1, of a block, counted from 1
+-- the same on a line, counted from 1
+abbrev pub row_fault : ℕ → MarkFault → RowFault
+row_fault line f = record { mark = f; line = line }
+
+-- and in a block, counted from 1
 abbrev pub sheet_fault : ℕ → ℕ → MarkFault → SheetFault
-sheet_fault line block f = record { row = record { mark = f; line = line }; block = block }
+sheet_fault line block f = record { row = row_fault line f; block = block }
 
 -- go on with what was read, or stop at the fault
 abbrev pub on : {A B F : Type 0} → Result A F → (A → Result B F) → Result B F

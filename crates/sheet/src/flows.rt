@@ -2,12 +2,11 @@
 ghost use Rattle.std.specs.Prelude.{◌≡◌, ◌+◌, ◌*◌, ◌<◌, ◌≤◌, IfOk};
 ghost use Rattle.theory.specs.Limits.{Count, most_consoles};
 ghost use Rattle.sheet.specs.Faults.{on_line};
-ghost use Rattle.sheet.specs.Numbered.{lined};
 ghost use Rattle.sheet.specs.Reading.{flow_at, flows_at};
 ghost use Rattle.sheet.specs.Due.{Within};
 ghost use Rattle.sheet.specs.Boards.{flow_due, BoardAs};
 
-use crate::fault::{MarkFault, RowFault, SheetFault, numbered};
+use crate::fault::{MarkFault, SheetFault};
 use crate::marks;
 use control::table::Counts;
 use mark::cause::Cause;
@@ -38,30 +37,12 @@ fn flow_due(
 {
     let (pair, behind) = flow(sheet, at, consoles)?;
     if pair < low || pair / consoles == pair % consoles {
-        return Err(MarkFault {
-            cause: Cause::NotDue,
-            place: at,
-        });
+        return Err(MarkFault::at(Cause::NotDue, at));
     }
     Ok((pair, behind))
 }
 
-// The same on its line.
-fn flow_on(
-    sheet: &[u8],
-    at: usize,
-    line: usize,
-    consoles: usize,
-    low: usize,
-) -> Result<(usize, usize), RowFault>
-    requires { Count most_consoles consoles }
-    ensures read { result ≡ lined line (flow_due consoles low sheet.now at) }
-    ensures bound { IfOk result (λ y. (low ≤ y.0) × (y.0 < consoles * consoles)) }
-{
-    Ok(numbered(flow_due(sheet, at, consoles, low), line)?)
-}
-
-// The same in the last block.
+// The same on its line of the last block.
 fn next_flow(
     sheet: &[u8],
     at: usize,
@@ -73,7 +54,7 @@ fn next_flow(
     ensures read { result ≡ on_line line 5 (flow_due consoles low sheet.now at) }
     ensures bound { IfOk result (λ y. (low ≤ y.0) × (y.0 < consoles * consoles)) }
 {
-    Ok(numbered(flow_on(sheet, at, line, consoles, low), 5)?)
+    flow_due(sheet, at, consoles, low).map_err(|fault| fault.on_line(line).in_block(5))
 }
 
 // The flows to the end of the sheet, on a board that is bare of any other.

@@ -4,7 +4,7 @@ ghost use Rattle.std.specs.List.{between};
 ghost use Rattle.sheet.specs.Marks.{blank, newline, run_of, mark_at, byte_at, item_at, name_reads, number_reads, exact_reads};
 ghost use Rattle.sheet.specs.Numbered.{placed, item_from};
 
-use crate::fault::{MarkFault, numbered};
+use crate::fault::MarkFault;
 use display::kind::DisplayKind;
 use mark::cause::Cause;
 use mark::token::{Token, number};
@@ -28,17 +28,11 @@ fn run(sheet: &[u8], at: usize) -> Result<&[u8], MarkFault>
     ensures cut { MatchResult result (λ run. mark_at Ok sheet.now at ≡ Ok (run.now, at + length run.now)) (λ f. mark_at Ok sheet.now at ≡ Err f) }
 {
     if at >= sheet.len() {
-        return Err(MarkFault {
-            cause: Cause::EndsEarly,
-            place: at,
-        });
+        return Err(MarkFault::at(Cause::EndsEarly, at));
     }
     let end = run_end(sheet, at);
     if end == at {
-        return Err(MarkFault {
-            cause: Cause::NoMark,
-            place: at,
-        });
+        return Err(MarkFault::at(Cause::NoMark, at));
     }
     Ok(&sheet[at..end])
 }
@@ -48,96 +42,65 @@ fn byte(sheet: &[u8], at: usize, due: u8) -> Result<usize, MarkFault>
     ensures { result ≡ byte_at due sheet.now at }
 {
     if at >= sheet.len() {
-        return Err(MarkFault {
-            cause: Cause::EndsEarly,
-            place: at,
-        });
+        return Err(MarkFault::at(Cause::EndsEarly, at));
     }
     if sheet[at] != due {
-        return Err(MarkFault {
-            cause: Cause::NotDue,
-            place: at,
-        });
+        return Err(MarkFault::at(Cause::NotDue, at));
     }
     Ok(at + 1)
 }
 
-// The name `due` at a place, read from its run.
-fn name_in(run: &[u8], at: usize, due: &[u8]) -> Result<(), MarkFault>
-    ensures { result ≡ placed at (name_reads due.now run.now) }
+// The name that is due, read from its run.
+fn name_in(run: &[u8], at: usize, due: &[u8]) -> Result<(), Cause>
+    ensures { result ≡ name_reads due.now run.now }
 {
-    match numbered(Token::sort(run, at), at)? {
+    match Token::sort(run, at)? {
         Token::Name { run, .. } if run == due => Ok(()),
-        Token::Name { at, .. } | Token::Number { at, .. } | Token::Negative { at, .. } => {
-            Err(MarkFault {
-                cause: Cause::NotDue,
-                place: at,
-            })
-        }
+        Token::Name { .. } | Token::Number { .. } | Token::Negative { .. } => Err(Cause::NotDue),
     }
 }
 
 // A number from `least` to `most`, read from its run.
-fn number_in(run: &[u8], at: usize, least: usize, most: usize) -> Result<usize, MarkFault>
-    ensures read { result ≡ placed at (number_reads least most run.now) }
+fn number_in(run: &[u8], at: usize, least: usize, most: usize) -> Result<usize, Cause>
+    ensures read { result ≡ number_reads least most run.now }
     ensures bound { IfOk result (λ n. (least ≤ n) × (n ≤ most)) }
 {
-    match numbered(Token::sort(run, at), at)? {
-        Token::Name { at, .. } => Err(MarkFault {
-            cause: Cause::NotDue,
-            place: at,
-        }),
-        Token::Negative { at, .. } => Err(MarkFault {
-            cause: Cause::OutOfRange,
-            place: at,
-        }),
-        Token::Number { run, at } => match number(run) {
-            None => Err(MarkFault {
-                cause: Cause::NoMark,
-                place: at,
-            }),
+    match Token::sort(run, at)? {
+        Token::Name { .. } => Err(Cause::NotDue),
+        Token::Negative { .. } => Err(Cause::OutOfRange),
+        Token::Number { run, .. } => match number(run) {
+            None => Err(Cause::NoMark),
             Some(n) if least <= n as usize && n as usize <= most => Ok(n as usize),
-            Some(_) => Err(MarkFault {
-                cause: Cause::OutOfRange,
-                place: at,
-            }),
+            Some(_) => Err(Cause::OutOfRange),
         },
     }
 }
 
 // The number `due` itself, read from its run.
-fn exact_in(run: &[u8], at: usize, due: usize) -> Result<usize, MarkFault>
-    ensures { result ≡ placed at (exact_reads due run.now) }
+fn exact_in(run: &[u8], at: usize, due: usize) -> Result<usize, Cause>
+    ensures { result ≡ exact_reads due run.now }
 {
-    match numbered(Token::sort(run, at), at)? {
-        Token::Number { run, at } => match number(run) {
-            None => Err(MarkFault {
-                cause: Cause::NoMark,
-                place: at,
-            }),
+    match Token::sort(run, at)? {
+        Token::Number { run, .. } => match number(run) {
+            None => Err(Cause::NoMark),
             Some(n) if n as usize == due => Ok(due),
-            Some(_) => Err(MarkFault {
-                cause: Cause::NotDue,
-                place: at,
-            }),
+            Some(_) => Err(Cause::NotDue),
         },
-        Token::Name { at, .. } | Token::Negative { at, .. } => Err(MarkFault {
-            cause: Cause::NotDue,
-            place: at,
-        }),
+        Token::Name { .. } | Token::Negative { .. } => Err(Cause::NotDue),
     }
 }
 
-// A mark that was read from a run, and the byte behind the run.
+// What the run at a place was read as, and the byte behind the run.
 fn item<T: Copy>(
-    read: Result<T, MarkFault>,
+    read: Result<T, Cause>,
     sheet: &[u8],
+    at: usize,
     end: usize,
     then: u8,
 ) -> Result<(T, usize), MarkFault>
-    ensures { result ≡ item_from read then sheet.now end }
+    ensures { result ≡ item_from (placed at read) then sheet.now end }
 {
-    let mark = read?;
+    let mark = read.map_err(|cause| MarkFault::at(cause, at))?;
     Ok((mark, byte(sheet, end, then)?))
 }
 
@@ -146,7 +109,7 @@ pub(crate) fn name(sheet: &[u8], at: usize, due: &[u8], then: u8) -> Result<((),
     ensures { result ≡ item_at (name_reads due.now) then sheet.now at }
 {
     let run = run(sheet, at)?;
-    item(name_in(run, at, due), sheet, at + run.len(), then)
+    item(name_in(run, at, due), sheet, at, at + run.len(), then)
 }
 
 // A number from `least` to `most` and the byte behind it; the number, and the place behind both.
@@ -161,7 +124,13 @@ pub(crate) fn ranged(
     ensures bound { IfOk result (λ y. (least ≤ y.0) × (y.0 ≤ most)) }
 {
     let run = run(sheet, at)?;
-    item(number_in(run, at, least, most), sheet, at + run.len(), then)
+    item(
+        number_in(run, at, least, most),
+        sheet,
+        at,
+        at + run.len(),
+        then,
+    )
 }
 
 // A number that is due itself and the blank behind it; the place behind both.
@@ -169,7 +138,7 @@ pub(crate) fn exact(sheet: &[u8], at: usize, due: usize) -> Result<(usize, usize
     ensures { result ≡ item_at (exact_reads due) blank sheet.now at }
 {
     let run = run(sheet, at)?;
-    item(exact_in(run, at, due), sheet, at + run.len(), b' ')
+    item(exact_in(run, at, due), sheet, at, at + run.len(), b' ')
 }
 
 // A display and the newline behind it; the kind reads the run itself.
@@ -177,6 +146,5 @@ pub(crate) fn display<D: DisplayKind>(sheet: &[u8], at: usize) -> Result<(D, usi
     ensures { result ≡ item_at D.DisplayKind.reads newline sheet.now at }
 {
     let run = run(sheet, at)?;
-    let display = numbered(D::read(run), at)?;
-    Ok((display, byte(sheet, at + run.len(), b'\n')?))
+    item(D::read(run), sheet, at, at + run.len(), b'\n')
 }

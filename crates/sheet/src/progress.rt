@@ -1,13 +1,10 @@
 // How far the reading of a sheet has come: the row that is due, its line and its place.
-ghost use Rattle.std.specs.Prelude.{◌≡◌, IfOk, MatchOption, MatchResult};
-ghost use Rattle.sheet.specs.Reading.{value_at};
-ghost use Rattle.sheet.specs.Numbered.{lined};
-ghost use Rattle.sheet.specs.Due.{Within, row_of};
-ghost use Rattle.sheet.specs.Entries.{counted, told, Kinded};
+ghost use Rattle.std.specs.Prelude.{◌≡◌, MatchOption, MatchResult};
+ghost use Rattle.sheet.specs.Due.{Within};
 ghost use Rattle.sheet.specs.Passes.{Ready, Stepped, Ended, Faulted, started};
 
 use crate::due::{Block, Due};
-use crate::fault::{MarkFault, RowFault, SheetFault, numbered};
+use crate::fault::SheetFault;
 use crate::rows;
 use crate::rows::{Entry, Heading};
 use display::kind::DisplayKind;
@@ -19,21 +16,6 @@ pub struct Progress {
     // counted from 1
     pub line: usize,
     pub at: usize,
-}
-
-// The row that is due, on its line.
-fn row_on<D: DisplayKind>(
-    sheet: &[u8],
-    at: usize,
-    line: usize,
-    heading: &Heading,
-    due: Due,
-) -> Result<(Entry<D>, usize), RowFault>
-    requires { Within heading.now.counts }
-    ensures read { told result ≡ lined line (value_at D.DisplayKind.reads (counted heading.now) sheet.now (row_of heading.now.counts due) at) }
-    ensures kind { IfOk result (λ y. Kinded due y.0) }
-{
-    Ok(numbered(rows::row(sheet, at, heading, due), line)?)
 }
 
 impl Progress {
@@ -60,7 +42,10 @@ impl Progress {
         let Some(due) = self.due else {
             return Ok(None);
         };
-        let (entry, at) = numbered(row_on(sheet, self.at, self.line, heading, due), due.block())?;
+        let line = self.line;
+        let (entry, at) = rows::row(sheet, self.at, heading, due).map_err(|fault| fault
+            .on_line(line)
+            .in_block(due.block()))?;
         self.due = due.after(&heading.counts);
         self.line += 1;
         self.at = at;

@@ -3,7 +3,6 @@ ghost use Rattle.std.specs.Prelude.{◌≡◌, ◌+◌, true, map, length, IfOk,
 ghost use Rattle.control.specs.Tables.{store_suffices};
 ghost use Rattle.sheet.specs.Calls.{FoundAs, read_answer, store_after};
 ghost use Rattle.sheet.specs.Faults.{on, on_line};
-ghost use Rattle.sheet.specs.Numbered.{lined};
 ghost use Rattle.sheet.specs.Plan.{counts_title};
 ghost use Rattle.sheet.specs.Reading.{names_at, counts_at, plan_of, rows_at};
 ghost use Rattle.sheet.specs.Due.{Within, names_in};
@@ -11,7 +10,7 @@ ghost use Rattle.sheet.specs.Entries.{counted, headed};
 ghost use Rattle.sheet.specs.Stores.{Holds, steps_with, owners_with, displays_with, FilledBy};
 
 use crate::due::Due;
-use crate::fault::{RowFault, SheetFault, numbered};
+use crate::fault::SheetFault;
 use crate::flows::all_flows;
 use crate::found::Found;
 use crate::progress::Progress;
@@ -20,21 +19,13 @@ use crate::rows::{Entry, Heading};
 use display::kind::DisplayKind;
 use policy::refusal::Refusal;
 
-// The two lines of the first block.
-fn first_lines<D: DisplayKind>(sheet: &[u8]) -> Result<(Heading, usize), RowFault>
-    ensures read { headed result ≡ on (lined 1 (names_at (names_in counts_title) sheet.now 0)) (λ i. lined 2 (counts_at D.DisplayKind.kind sheet.now i)) }
-    ensures within { IfOk result (λ y. Within y.0.counts) }
-{
-    let at = numbered(rows::counts_title(sheet), 1)?;
-    Ok(numbered(rows::counts_row::<D>(sheet, at), 2)?)
-}
-
 // The first block: the counts and the start, and the place behind it.
 fn first_block<D: DisplayKind>(sheet: &[u8]) -> Result<(Heading, usize), SheetFault>
     ensures read { headed result ≡ on (on_line 1 1 (names_at (names_in counts_title) sheet.now 0)) (λ i. on_line 2 1 (counts_at D.DisplayKind.kind sheet.now i)) }
     ensures within { IfOk result (λ y. Within y.0.counts) }
 {
-    Ok(numbered(first_lines::<D>(sheet), 1)?)
+    let at = rows::counts_title(sheet).map_err(|fault| fault.on_line(1).in_block(1))?;
+    rows::counts_row::<D>(sheet, at).map_err(|fault| fault.on_line(2).in_block(1))
 }
 
 // Reads the rows before the flows and keeps nothing of them; the line and the place behind them.
