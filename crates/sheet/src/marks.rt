@@ -1,7 +1,6 @@
 // Marks: the runs of a sheet, cut and sorted, and read as what is due.
-ghost use Rattle.std.specs.Prelude.{◌≡◌, ◌+◌, ◌≤◌, length, drop, IfOk, Ok, Err, MatchResult};
-ghost use Rattle.std.specs.List.{between};
-ghost use Rattle.sheet.specs.Marks.{blank, newline, run_of, mark_at, byte_at, item_at, name_reads, number_reads, exact_reads};
+ghost use Rattle.std.specs.Prelude.{◌≡◌, ◌+◌, ◌≤◌, length, position, IfOk, Ok, Err, MatchResult};
+ghost use Rattle.sheet.specs.Marks.{blank, newline, ends_run, run_of, mark_at, byte_at, item_at, name_reads, number_reads, exact_reads};
 ghost use Rattle.sheet.specs.Numbered.{placed, item_from};
 
 use crate::fault::MarkFault;
@@ -9,17 +8,30 @@ use display::kind::DisplayKind;
 use mark::cause::Cause;
 use mark::token::{Token, number};
 
-// Where the run that begins at `at` ends: at the next blank, newline or end of the sheet.
-pub(crate) fn run_end(sheet: &[u8], at: usize) -> usize
-    requires { at ≤ length sheet.now }
-    ensures within { (at ≤ result) × (result ≤ length sheet.now) }
-    ensures run { between at result sheet.now ≡ run_of (drop at sheet.now) }
+// Whether the byte ends a run.
+fn ends_run(byte: u8) -> bool
+    ensures { result ≡ ends_run byte }
 {
-    let mut end = at;
-    while end < sheet.len() && sheet[end] != b' ' && sheet[end] != b'\n' {
-        end += 1;
+    byte == b' ' || byte == b'\n'
+}
+
+// Where the first byte stands that ends a run.
+fn run_end(rest: &[u8]) -> Option<usize>
+    ensures { result ≡ position ends_run rest.now }
+{
+    rest.iter().position(|byte| ends_run(*byte))
+}
+
+// The run that bytes begin with, which ends before such a byte or with the last one.
+#[tactic(auto, using(crate::proofs::Cuts::cut))]
+pub(crate) fn run_of(rest: &[u8]) -> &[u8]
+    ensures run { result.now ≡ run_of rest.now }
+    ensures within { length result.now ≤ length rest.now }
+{
+    match run_end(rest) {
+        Some(end) => &rest[..end],
+        None => rest,
     }
-    end
 }
 
 // The run at a place, which is not empty.
@@ -30,24 +42,22 @@ fn run(sheet: &[u8], at: usize) -> Result<&[u8], MarkFault>
     if at >= sheet.len() {
         return Err(MarkFault::at(Cause::EndsEarly, at));
     }
-    let end = run_end(sheet, at);
-    if end == at {
+    let run = run_of(&sheet[at..]);
+    if run.is_empty() {
         return Err(MarkFault::at(Cause::NoMark, at));
     }
-    Ok(&sheet[at..end])
+    Ok(run)
 }
 
 // The place behind the byte that is due at a place.
 fn byte(sheet: &[u8], at: usize, due: u8) -> Result<usize, MarkFault>
     ensures { result ≡ byte_at due sheet.now at }
 {
-    if at >= sheet.len() {
-        return Err(MarkFault::at(Cause::EndsEarly, at));
+    match sheet.get(at) {
+        None => Err(MarkFault::at(Cause::EndsEarly, at)),
+        Some(byte) if *byte != due => Err(MarkFault::at(Cause::NotDue, at)),
+        Some(_) => Ok(at + 1),
     }
-    if sheet[at] != due {
-        return Err(MarkFault::at(Cause::NotDue, at));
-    }
-    Ok(at + 1)
 }
 
 // The name that is due, read from its run.
