@@ -1,5 +1,5 @@
 -- The whole sheet: its first block, its rows and its flows make the answer.
-use Rattle.std.proofs.Common.{◌≡◌, ℕ, ◌+◌, ◌*◌, ◌≤◌, true, List, length, Ok, Err, Result, sym, refl, ap, ◌∙◌, subst, arith}
+use Rattle.std.proofs.Common.{◌≡◌, ℕ, ◌+◌, ◌*◌, ◌≤◌, true, List, map, length, Ok, Err, Result, sym, refl, ap, ◌∙◌, subst, arith}
 use Rattle.std.proofs.lemmas.Bool.{le-ltb}
 use Rattle.mark.specs.declared.cause.Cause.{Cause}
 use Rattle.policy.specs.declared.board.Board.{Board}
@@ -100,6 +100,11 @@ module _ {D : Type 0} (X : Result (Sheet D) Refusal) where
 
     pub store_filled : (x : Sheet D) (after : List A) → X ≡ Ok x → after ≡ overwritten (entries x) store → after ≡ store_after entries X store
     store_filled x after q h = h ∙ ap (λ Y. store_after entries Y store) (sym q)
+
+-- where the answer is the refusal that the call returns, the stores stay
+pub kept : {D C : Type 0} (cell : D → C) (X : Result (Sheet D) Refusal) (r : Result Found Refusal) (e : Refusal) (steps owners : List ℕ) (displays : List C) → r ≡ Err e → X ≡ Err e
+    → FoundAs r X × (steps ≡ store_after (λ x. x.entries.steps) X steps) × (owners ≡ store_after (λ x. x.entries.owners) X owners) × (displays ≡ store_after (λ x. map cell x.entries.displays) X displays)
+kept cell X r e steps owners displays p q = (found_err X r e p q, store_kept X (λ x. x.entries.steps) steps e q, store_kept X (λ x. x.entries.owners) owners e q, store_kept X (λ x. map cell x.entries.displays) displays e q)
 
 -- the store of a pass over rows that were read
 pub filled_ok : {D A : Type 0} (entries : Entries D → List A) (W : Result (Entries D × ℕ) SheetFault) (before after : List A) (e : Entries D) (j : ℕ) → W ≡ Ok (e, j) → FilledBy entries W before after → after ≡ overwritten (entries e) before

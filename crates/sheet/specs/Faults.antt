@@ -25,3 +25,13 @@ on (Err f) next = Err f
 abbrev pub on_line : {A : Type 0} → ℕ → ℕ → Result A MarkFault → Result A SheetFault
 on_line line block (Ok x) = Ok x
 on_line line block (Err f) = Err (sheet_fault line block f)
+
+-- what was read, with the place behind it
+abbrev pub behind : {A F : Type 0} → Result A F → ℕ → Result (A × ℕ) F
+behind (Ok x) i = Ok (x, i)
+behind (Err f) i = Err f
+
+-- the place behind what was read
+abbrev pub place_behind : {F : Type 0} → Result (Unit {0}) F → ℕ → Result ℕ F
+place_behind (Ok x) i = Ok i
+place_behind (Err f) i = Err f

@@ -1,81 +1,75 @@
 // The last block: the flows, each in its turn, allowed on a board.
-ghost use Rattle.std.specs.Prelude.{◌≡◌, ◌+◌, ◌*◌, ◌<◌, ◌≤◌, IfOk};
+ghost use Rattle.std.specs.Prelude.{◌≡◌, ◌+◌, ◌*◌, ◌<◌, ◌≤◌, IfOk, IfSome};
 ghost use Rattle.theory.specs.Limits.{Count, most_consoles};
-ghost use Rattle.sheet.specs.Faults.{on_line};
+ghost use Rattle.sheet.specs.Faults.{behind};
 ghost use Rattle.sheet.specs.Reading.{flow_at, flows_at};
 ghost use Rattle.sheet.specs.Due.{Within};
-ghost use Rattle.sheet.specs.Boards.{flow_due, BoardAs};
+ghost use Rattle.sheet.specs.Boards.{flow_due, flow_next, BoardAs};
 
 use crate::fault::{MarkFault, SheetFault};
-use crate::marks;
+use crate::marks::Cursor;
 use control::table::Counts;
 use mark::cause::Cause;
 use policy::board::Board;
 use policy::refusal::Refusal;
 
 // A row of the last block, as the number of its pair of consoles.
-fn flow(sheet: &[u8], at: usize, consoles: usize) -> Result<(usize, usize), MarkFault>
+fn flow(cursor: &mut Cursor, consoles: usize) -> Result<usize, MarkFault>
     requires { Count most_consoles consoles }
-    ensures read { result ≡ flow_at consoles sheet.now at }
-    ensures bound { IfOk result (λ y. y.0 < consoles * consoles) }
+    ensures read { behind result cursor.new.at ≡ flow_at consoles cursor.old.sheet.now cursor.old.at }
+    ensures sheet { cursor.new.sheet ≡ cursor.old.sheet }
+    ensures bound { IfOk result (λ p. p < consoles * consoles) }
 {
-    let (from, at) = marks::ranged(sheet, at, 0, consoles - 1, b' ')?;
-    let (to, at) = marks::ranged(sheet, at, 0, consoles - 1, b'\n')?;
-    Ok((from * consoles + to, at))
+    let from = cursor.ranged(0, consoles - 1, b' ')?;
+    let to = cursor.ranged(0, consoles - 1, b'\n')?;
+    Ok(from * consoles + to)
 }
 
 // A flow that may come: no self flow, and no pair below `low`, the one behind the last.
-fn flow_due(
-    sheet: &[u8],
-    at: usize,
-    consoles: usize,
-    low: usize,
-) -> Result<(usize, usize), MarkFault>
+fn flow_due(cursor: &mut Cursor, consoles: usize, low: usize) -> Result<usize, MarkFault>
     requires { Count most_consoles consoles }
-    ensures read { result ≡ flow_due consoles low sheet.now at }
-    ensures bound { IfOk result (λ y. (low ≤ y.0) × (y.0 < consoles * consoles)) }
+    ensures read { behind result cursor.new.at ≡ flow_due consoles low cursor.old.sheet.now cursor.old.at }
+    ensures sheet { cursor.new.sheet ≡ cursor.old.sheet }
+    ensures bound { IfOk result (λ p. (low ≤ p) × (p < consoles * consoles)) }
 {
-    let (pair, behind) = flow(sheet, at, consoles)?;
+    let first = cursor.fault(Cause::NotDue);
+    let pair = flow(cursor, consoles)?;
     if pair < low || pair / consoles == pair % consoles {
-        return Err(MarkFault::at(Cause::NotDue, at));
+        return Err(first);
     }
-    Ok((pair, behind))
+    Ok(pair)
 }
 
-// The same on its line of the last block.
+// The flow that comes next, if the sheet goes on; its line is one of the last block.
 fn next_flow(
-    sheet: &[u8],
-    at: usize,
+    cursor: &mut Cursor,
     line: usize,
     consoles: usize,
     low: usize,
-) -> Result<(usize, usize), SheetFault>
+) -> Result<Option<usize>, SheetFault>
     requires { Count most_consoles consoles }
-    ensures read { result ≡ on_line line 5 (flow_due consoles low sheet.now at) }
-    ensures bound { IfOk result (λ y. (low ≤ y.0) × (y.0 < consoles * consoles)) }
+    ensures read { behind result cursor.new.at ≡ flow_next consoles low line cursor.old.sheet.now cursor.old.at }
+    ensures sheet { cursor.new.sheet ≡ cursor.old.sheet }
+    ensures bound { IfOk result (λ o. IfSome o (λ p. (low ≤ p) × (p < consoles * consoles))) }
 {
-    flow_due(sheet, at, consoles, low).map_err(|fault| fault.on_line(line).in_block(5))
+    if cursor.at >= cursor.sheet.len() {
+        return Ok(None);
+    }
+    let pair = flow_due(cursor, consoles, low).map_err(|fault| fault.on_line(line).in_block(5))?;
+    Ok(Some(pair))
 }
 
 // The flows to the end of the sheet, on a board that is bare of any other.
-pub(crate) fn all_flows(
-    sheet: &[u8],
-    at: usize,
-    line: usize,
-    counts: &Counts,
-) -> Result<Board, Refusal>
+pub(crate) fn all_flows(cursor: &mut Cursor, line: usize, counts: &Counts) -> Result<Board, Refusal>
     requires { (Within counts.now) × (line ≤ 3631) }
-    ensures { BoardAs counts.now result (flows_at counts.now.consoles sheet.now (counts.now.consoles * counts.now.consoles) 0 line at) }
+    ensures { BoardAs counts.now result (flows_at counts.now.consoles cursor.old.sheet.now (counts.now.consoles * counts.now.consoles) 0 line cursor.old.at) }
 {
     let consoles = counts.consoles;
     let mut board = Board::bare(consoles, counts.commands)?;
-    let mut place = at;
     let mut row = line;
     let mut low = 0;
-    while place < sheet.len() {
-        let (pair, behind) = next_flow(sheet, place, row, consoles, low)?;
+    while let Some(pair) = next_flow(cursor, row, consoles, low)? {
         board.allow(pair / consoles, pair % consoles)?;
-        place = behind;
         row += 1;
         low = pair + 1;
     }

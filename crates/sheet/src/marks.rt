@@ -1,6 +1,8 @@
-// Marks: the runs of a sheet, cut and sorted, and read as what is due.
-ghost use Rattle.std.specs.Prelude.{◌≡◌, ◌+◌, ◌≤◌, length, position, IfOk, Ok, Err, MatchResult};
+// Marks: the runs of a sheet, cut and sorted, and read as what is due by a cursor over the sheet.
+ghost use Rattle.std.specs.Prelude.{◌≡◌, ◌+◌, ◌≤◌, map, length, position, IfOk, Ok, Err, MatchResult};
 ghost use Rattle.sheet.specs.Marks.{blank, newline, ends_run, run_of, mark_at, byte_at, item_at, name_reads, number_reads, exact_reads};
+ghost use Rattle.sheet.specs.Faults.{mark_fault, behind, place_behind};
+ghost use Rattle.sheet.specs.Reading.{names_at, exacts_at};
 ghost use Rattle.sheet.specs.Numbered.{placed, item_from};
 
 use crate::fault::MarkFault;
@@ -31,32 +33,6 @@ pub(crate) fn run_of(rest: &[u8]) -> &[u8]
     match run_end(rest) {
         Some(end) => &rest[..end],
         None => rest,
-    }
-}
-
-// The run at a place, which is not empty.
-fn run(sheet: &[u8], at: usize) -> Result<&[u8], MarkFault>
-    ensures within { IfOk result (λ run. at + length run.now ≤ length sheet.now) }
-    ensures cut { MatchResult result (λ run. mark_at Ok sheet.now at ≡ Ok (run.now, at + length run.now)) (λ f. mark_at Ok sheet.now at ≡ Err f) }
-{
-    if at >= sheet.len() {
-        return Err(MarkFault::at(Cause::EndsEarly, at));
-    }
-    let run = run_of(&sheet[at..]);
-    if run.is_empty() {
-        return Err(MarkFault::at(Cause::NoMark, at));
-    }
-    Ok(run)
-}
-
-// The place behind the byte that is due at a place.
-fn byte(sheet: &[u8], at: usize, due: u8) -> Result<usize, MarkFault>
-    ensures { result ≡ byte_at due sheet.now at }
-{
-    match sheet.get(at) {
-        None => Err(MarkFault::at(Cause::EndsEarly, at)),
-        Some(byte) if *byte != due => Err(MarkFault::at(Cause::NotDue, at)),
-        Some(_) => Ok(at + 1),
     }
 }
 
@@ -100,61 +76,130 @@ fn exact_in(run: &[u8], at: usize, due: usize) -> Result<usize, Cause>
     }
 }
 
-// What the run at a place was read as, and the byte behind the run.
-fn item<T: Copy>(
-    read: Result<T, Cause>,
-    sheet: &[u8],
-    at: usize,
-    end: usize,
-    then: u8,
-) -> Result<(T, usize), MarkFault>
-    ensures { result ≡ item_from (placed at read) then sheet.now end }
-{
-    let mark = read.map_err(|cause| MarkFault::at(cause, at))?;
-    Ok((mark, byte(sheet, end, then)?))
+// A place in a sheet. What is due there is read, and moves it behind.
+#[derive(Clone, Copy)]
+pub struct Cursor<'a> {
+    pub sheet: &'a [u8],
+    pub at: usize,
 }
 
-// A name that is due and the byte behind it; the place behind both.
-pub(crate) fn name(sheet: &[u8], at: usize, due: &[u8], then: u8) -> Result<((), usize), MarkFault>
-    ensures { result ≡ item_at (name_reads due.now) then sheet.now at }
-{
-    let run = run(sheet, at)?;
-    item(name_in(run, at, due), sheet, at, at + run.len(), then)
-}
+impl<'a> Cursor<'a> {
+    // The cause at this place.
+    pub(crate) fn fault(&self, cause: Cause) -> MarkFault
+        ensures { result ≡ mark_fault cause self.now.at }
+    {
+        MarkFault::at(cause, self.at)
+    }
 
-// A number from `least` to `most` and the byte behind it; the number, and the place behind both.
-pub(crate) fn ranged(
-    sheet: &[u8],
-    at: usize,
-    least: usize,
-    most: usize,
-    then: u8,
-) -> Result<(usize, usize), MarkFault>
-    ensures read { result ≡ item_at (number_reads least most) then sheet.now at }
-    ensures bound { IfOk result (λ y. (least ≤ y.0) × (y.0 ≤ most)) }
-{
-    let run = run(sheet, at)?;
-    item(
-        number_in(run, at, least, most),
-        sheet,
-        at,
-        at + run.len(),
-        then,
-    )
-}
+    // The run that begins here, which is not empty.
+    fn run(&self) -> Result<&'a [u8], MarkFault>
+        ensures within { IfOk result (λ run. self.now.at + length run.now ≤ length self.now.sheet.now) }
+        ensures cut { MatchResult result (λ run. mark_at Ok self.now.sheet.now self.now.at ≡ Ok (run.now, self.now.at + length run.now)) (λ f. mark_at Ok self.now.sheet.now self.now.at ≡ Err f) }
+    {
+        if self.at >= self.sheet.len() {
+            return Err(self.fault(Cause::EndsEarly));
+        }
+        let run = run_of(&self.sheet[self.at..]);
+        if run.is_empty() {
+            return Err(self.fault(Cause::NoMark));
+        }
+        Ok(run)
+    }
 
-// A number that is due itself and the blank behind it; the place behind both.
-pub(crate) fn exact(sheet: &[u8], at: usize, due: usize) -> Result<(usize, usize), MarkFault>
-    ensures { result ≡ item_at (exact_reads due) blank sheet.now at }
-{
-    let run = run(sheet, at)?;
-    item(exact_in(run, at, due), sheet, at, at + run.len(), b' ')
-}
+    // The byte that is due.
+    fn byte(&mut self, due: u8) -> Result<(), MarkFault>
+        ensures read { place_behind result self.new.at ≡ byte_at due self.old.sheet.now self.old.at }
+        ensures sheet { self.new.sheet ≡ self.old.sheet }
+    {
+        match self.sheet.get(self.at) {
+            None => Err(self.fault(Cause::EndsEarly)),
+            Some(byte) if *byte != due => Err(self.fault(Cause::NotDue)),
+            Some(_) => {
+                self.at += 1;
+                Ok(())
+            }
+        }
+    }
 
-// A display and the newline behind it; the kind reads the run itself.
-pub(crate) fn display<D: DisplayKind>(sheet: &[u8], at: usize) -> Result<(D, usize), MarkFault>
-    ensures { result ≡ item_at D.DisplayKind.reads newline sheet.now at }
-{
-    let run = run(sheet, at)?;
-    item(D::read(run), sheet, at, at + run.len(), b'\n')
+    // What the run that begins here and ends at `end` was read as, and the byte behind it.
+    fn item<T: Copy>(
+        &mut self,
+        read: Result<T, Cause>,
+        end: usize,
+        then: u8,
+    ) -> Result<T, MarkFault>
+        ensures read { behind result self.new.at ≡ item_from (placed self.old.at read) then self.old.sheet.now end }
+        ensures sheet { self.new.sheet ≡ self.old.sheet }
+        ensures mark { IfOk result (λ x. read ≡ Ok x) }
+    {
+        let place = self.at;
+        let mark = read.map_err(|cause| MarkFault::at(cause, place))?;
+        self.at = end;
+        self.byte(then)?;
+        Ok(mark)
+    }
+
+    // A name that is due and the byte behind it.
+    pub(crate) fn name(&mut self, due: &[u8], then: u8) -> Result<(), MarkFault>
+        ensures read { behind result self.new.at ≡ item_at (name_reads due.now) then self.old.sheet.now self.old.at }
+        ensures sheet { self.new.sheet ≡ self.old.sheet }
+    {
+        let run = self.run()?;
+        self.item(name_in(run, self.at, due), self.at + run.len(), then)
+    }
+
+    // A number from `least` to `most` and the byte behind it.
+    pub(crate) fn ranged(&mut self, least: usize, most: usize, then: u8) -> Result<usize, MarkFault>
+        ensures read { behind result self.new.at ≡ item_at (number_reads least most) then self.old.sheet.now self.old.at }
+        ensures sheet { self.new.sheet ≡ self.old.sheet }
+        ensures bound { IfOk result (λ n. (least ≤ n) × (n ≤ most)) }
+    {
+        let run = self.run()?;
+        self.item(
+            number_in(run, self.at, least, most),
+            self.at + run.len(),
+            then,
+        )
+    }
+
+    // A number that is due itself and the blank behind it.
+    pub(crate) fn exact(&mut self, due: usize) -> Result<usize, MarkFault>
+        ensures read { behind result self.new.at ≡ item_at (exact_reads due) blank self.old.sheet.now self.old.at }
+        ensures sheet { self.new.sheet ≡ self.old.sheet }
+    {
+        let run = self.run()?;
+        self.item(exact_in(run, self.at, due), self.at + run.len(), b' ')
+    }
+
+    // A display and the newline behind it; the kind reads the run itself.
+    pub(crate) fn display<D: DisplayKind>(&mut self) -> Result<D, MarkFault>
+        ensures read { behind result self.new.at ≡ item_at D.DisplayKind.reads newline self.old.sheet.now self.old.at }
+        ensures sheet { self.new.sheet ≡ self.old.sheet }
+    {
+        let run = self.run()?;
+        self.item(D::read(run), self.at + run.len(), b'\n')
+    }
+
+    // The names of a title, a blank between and a newline behind.
+    pub(crate) fn names(&mut self, due: &[&[u8]]) -> Result<(), MarkFault>
+        ensures read { place_behind result self.new.at ≡ names_at (map (λ x. x.now) due.now) self.old.sheet.now self.old.at }
+        ensures sheet { self.new.sheet ≡ self.old.sheet }
+    {
+        for (i, word) in due.iter().enumerate() {
+            let then = if i + 1 < due.len() { b' ' } else { b'\n' };
+            self.name(word, then)?;
+        }
+        Ok(())
+    }
+
+    // The numbers that a row begins with.
+    pub(crate) fn exacts(&mut self, due: &[usize]) -> Result<(), MarkFault>
+        ensures read { place_behind result self.new.at ≡ exacts_at due.now self.old.sheet.now self.old.at }
+        ensures sheet { self.new.sheet ≡ self.old.sheet }
+    {
+        for number in due {
+            self.exact(*number)?;
+        }
+        Ok(())
+    }
 }

@@ -5,50 +5,49 @@ ghost use Rattle.sheet.specs.Passes.{Ready, Stepped, Ended, Faulted, started};
 
 use crate::due::{Block, Due};
 use crate::fault::SheetFault;
+use crate::marks::Cursor;
 use crate::rows;
 use crate::rows::{Entry, Heading};
 use display::kind::DisplayKind;
 
 #[derive(Clone, Copy)]
-pub struct Progress {
+pub struct Progress<'a> {
     // none once only flows can follow
     pub due: Option<Due>,
     // counted from 1
     pub line: usize,
-    pub at: usize,
+    pub cursor: Cursor<'a>,
 }
 
-impl Progress {
+impl<'a> Progress<'a> {
     // Behind the two lines of the first block.
-    pub(crate) fn start(at: usize) -> Progress
-        ensures { result ≡ started at }
+    pub(crate) fn start(cursor: Cursor<'a>) -> Progress<'a>
+        ensures { result ≡ started cursor.entry }
     {
         Progress {
             due: Some(Due::Title(Block::Owners)),
             line: 3,
-            at,
+            cursor,
         }
     }
 
     // Reads the row that is due, if there is one, and goes on to the row after it.
     pub(crate) fn next<D: DisplayKind>(
         &mut self,
-        sheet: &[u8],
         heading: &Heading,
     ) -> Result<Option<(Due, Entry<D>)>, SheetFault>
         requires { (Within heading.now.counts) × (Ready heading.now.counts self.old) }
-        ensures { MatchResult result (λ o. MatchOption o (Ended D.DisplayKind.reads heading.now sheet.now self.old self.new) (λ y. Stepped D.DisplayKind.reads heading.now sheet.now self.old self.new y.0 y.1)) (λ f. Faulted D.DisplayKind.reads heading.now sheet.now self.old f) }
+        ensures { MatchResult result (λ o. MatchOption o (Ended self.old self.new) (λ y. Stepped D.DisplayKind.reads heading.now self.old self.new y.0 y.1)) (λ f. Faulted D.DisplayKind.reads heading.now self.old f) }
     {
         let Some(due) = self.due else {
             return Ok(None);
         };
         let line = self.line;
-        let (entry, at) = rows::row(sheet, self.at, heading, due).map_err(|fault| fault
+        let entry = rows::row(&mut self.cursor, heading, due).map_err(|fault| fault
             .on_line(line)
             .in_block(due.block()))?;
         self.due = due.after(&heading.counts);
         self.line += 1;
-        self.at = at;
         Ok(Some((due, entry)))
     }
 }
