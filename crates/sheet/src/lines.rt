@@ -16,7 +16,7 @@ pub(crate) fn counts<C: Control>(control: &C, out: &mut Output<'_>)
     out.number(control.commands(), b' ');
     out.number(control.consoles(), b' ');
     out.number(control.start(), b' ');
-    out.word(C::Display::kind_name(), b'\n');
+    out.word(C::Display::kind_name().as_bytes(), b'\n');
 }
 
 // A line for each command: the console that it belongs to.

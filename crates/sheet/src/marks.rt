@@ -8,7 +8,7 @@ ghost use Rattle.sheet.specs.Numbered.{placed, item_from};
 use crate::fault::MarkFault;
 use display::kind::DisplayKind;
 use mark::cause::Cause;
-use mark::token::{Token, number};
+use mark::token::Token;
 
 // Whether the byte ends a run.
 fn ends_run(byte: u8) -> bool
@@ -52,13 +52,11 @@ fn number_in(run: &[u8], at: usize, least: usize, most: usize) -> Result<usize, 
     ensures bound { IfOk result (λ n. (least ≤ n) × (n ≤ most)) }
 {
     match Token::sort(run, at)? {
+        Token::Number { value, .. } if least <= value as usize && value as usize <= most => {
+            Ok(value as usize)
+        }
+        Token::Number { .. } | Token::Negative { .. } => Err(Cause::OutOfRange),
         Token::Name { .. } => Err(Cause::NotDue),
-        Token::Negative { .. } => Err(Cause::OutOfRange),
-        Token::Number { run, .. } => match number(run) {
-            None => Err(Cause::NoMark),
-            Some(n) if least <= n as usize && n as usize <= most => Ok(n as usize),
-            Some(_) => Err(Cause::OutOfRange),
-        },
     }
 }
 
@@ -67,12 +65,8 @@ fn exact_in(run: &[u8], at: usize, due: usize) -> Result<usize, Cause>
     ensures { result ≡ exact_reads due run.now }
 {
     match Token::sort(run, at)? {
-        Token::Number { run, .. } => match number(run) {
-            None => Err(Cause::NoMark),
-            Some(n) if n as usize == due => Ok(due),
-            Some(_) => Err(Cause::NotDue),
-        },
-        Token::Name { .. } | Token::Negative { .. } => Err(Cause::NotDue),
+        Token::Number { value, .. } if value as usize == due => Ok(due),
+        Token::Name { .. } | Token::Number { .. } | Token::Negative { .. } => Err(Cause::NotDue),
     }
 }
 

@@ -17,8 +17,10 @@ use crate::marks::Cursor;
 use crate::progress::Progress;
 use crate::rows;
 use crate::rows::{Entry, Heading};
+use control::table::{DISPLAYS, OWNERS, STEPS};
 use display::kind::DisplayKind;
 use policy::refusal::Refusal;
+use theory::limits::MOST_SHEET_BYTES;
 
 // The first block: the counts and the start.
 fn first_block<D: DisplayKind>(cursor: &mut Cursor) -> Result<Heading, SheetFault>
@@ -98,10 +100,10 @@ pub fn read<D: DisplayKind>(
     ensures owners { owners.new ≡ store_after (λ x. x.entries.owners) (read_answer D.DisplayKind.kind D.DisplayKind.reads (length steps.old) (length owners.old) (length displays.old) sheet.now) owners.old }
     ensures displays { displays.new ≡ store_after (λ x. map D.DisplayKind.cell x.entries.displays) (read_answer D.DisplayKind.kind D.DisplayKind.reads (length steps.old) (length owners.old) (length displays.old) sheet.now) displays.old }
 {
-    if sheet.len() > 40960 {
+    if sheet.len() > MOST_SHEET_BYTES {
         return Err(Refusal::SheetTooLong);
     }
-    if steps.len() < 2400 || owners.len() < 24 || displays.len() < 1200 {
+    if steps.len() < STEPS || owners.len() < OWNERS || displays.len() < DISPLAYS {
         return Err(Refusal::TableStoreTooSmall);
     }
     let mut cursor = Cursor { sheet, at: 0 };

@@ -125,7 +125,7 @@ pub(crate) fn counts_row<D: DisplayKind>(cursor: &mut Cursor) -> Result<Heading,
     let commands = cursor.ranged(1, MOST_COMMANDS, b' ')?;
     let consoles = cursor.ranged(1, MOST_CONSOLES, b' ')?;
     let start = cursor.ranged(0, states - 1, b' ')?;
-    cursor.name(D::kind_name(), b'\n')?;
+    cursor.name(D::kind_name().as_bytes(), b'\n')?;
     let counts = Counts {
         states,
         commands,
