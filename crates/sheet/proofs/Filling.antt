@@ -20,7 +20,7 @@ use Rattle.sheet.specs.declared.due.Due.TheVariants as due
 use Rattle.sheet.specs.declared.fault.SheetFault.{SheetFault}
 use Rattle.sheet.specs.declared.marks.Cursor.{Cursor}
 use Rattle.sheet.specs.declared.progress.Progress.{Progress}
-use Rattle.sheet.specs.declared.rows.Heading.{Heading}
+use Rattle.sheet.specs.declared.heading.Heading.{Heading}
 use Rattle.sheet.specs.declared.rows.Entry.{Entry}
 use Rattle.sheet.specs.declared.rows.Entry.TheVariants.{Nothing, Owner, Step, Shown}
 use Rattle.sheet.proofs.Passed.{pass_end}

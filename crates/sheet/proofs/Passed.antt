@@ -10,7 +10,7 @@ use Rattle.sheet.specs.declared.due.Due.{Due}
 use Rattle.sheet.specs.declared.fault.SheetFault.{SheetFault}
 use Rattle.sheet.specs.declared.marks.Cursor.{Cursor}
 use Rattle.sheet.specs.declared.progress.Progress.{Progress}
-use Rattle.sheet.specs.declared.rows.Heading.{Heading}
+use Rattle.sheet.specs.declared.heading.Heading.{Heading}
 use Rattle.sheet.specs.declared.rows.Entry.{Entry}
 use Rattle.sheet.proofs.Dues.{all_due, few_rows}
 

@@ -9,7 +9,7 @@ use Rattle.sheet.specs.Passes.{Ready, Stepped, Faulted, left_at, line_behind}
 use Rattle.sheet.specs.declared.due.Due.{Due}
 use Rattle.sheet.specs.declared.fault.SheetFault.{SheetFault}
 use Rattle.sheet.specs.declared.progress.Progress.{Progress}
-use Rattle.sheet.specs.declared.rows.Heading.{Heading}
+use Rattle.sheet.specs.declared.heading.Heading.{Heading}
 use Rattle.sheet.specs.declared.rows.Entry.{Entry}
 use Rattle.sheet.proofs.Dues.{rows_step, stands_next, block_number}
 use Rattle.sheet.proofs.Going.{on_ok, on_err}

@@ -17,7 +17,7 @@ use Rattle.sheet.specs.Stores.{FilledBy}
 use Rattle.sheet.specs.declared.fault.MarkFault.{MarkFault}
 use Rattle.sheet.specs.declared.fault.SheetFault.{SheetFault}
 use Rattle.sheet.specs.declared.found.Found.{Found}
-use Rattle.sheet.specs.declared.rows.Heading.{Heading}
+use Rattle.sheet.specs.declared.heading.Heading.{Heading}
 use Rattle.sheet.proofs.Dues.{all_due, few_rows}
 
 -- no line of the rows is past the last of a largest sheet

@@ -1,13 +1,13 @@
 // How far the reading of a sheet has come: the row that is due, its line and its place.
 ghost use Rattle.std.specs.Prelude.{◌≡◌, MatchOption, MatchResult};
-ghost use Rattle.sheet.specs.Due.{Within};
 ghost use Rattle.sheet.specs.Passes.{Ready, Stepped, Ended, Faulted, started};
 
 use crate::due::{Block, Due};
 use crate::fault::SheetFault;
+use crate::heading::Heading;
 use crate::marks::Cursor;
 use crate::rows;
-use crate::rows::{Entry, Heading};
+use crate::rows::Entry;
 use display::kind::DisplayKind;
 
 #[derive(Clone, Copy)]
@@ -36,7 +36,7 @@ impl<'a> Progress<'a> {
         &mut self,
         heading: &Heading,
     ) -> Result<Option<(Due, Entry<D>)>, SheetFault>
-        requires { (Within heading.now.counts) × (Ready heading.now.counts self.old) }
+        requires { Ready heading.now.counts self.old }
         ensures { MatchResult result (λ o. MatchOption o (Ended self.old self.new) (λ y. Stepped D.DisplayKind.reads heading.now self.old self.new y.0 y.1)) (λ f. Faulted D.DisplayKind.reads heading.now self.old f) }
     {
         let Some(due) = self.due else {
@@ -46,7 +46,7 @@ impl<'a> Progress<'a> {
         let entry = rows::row(&mut self.cursor, heading, due).map_err(|fault| fault
             .on_line(line)
             .in_block(due.block()))?;
-        self.due = due.after(&heading.counts);
+        self.due = due.after(heading);
         self.line += 1;
         Ok(Some((due, entry)))
     }

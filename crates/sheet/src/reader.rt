@@ -5,7 +5,7 @@ ghost use Rattle.sheet.specs.Calls.{FoundAs, read_answer, store_after};
 ghost use Rattle.sheet.specs.Faults.{on, on_line, behind};
 ghost use Rattle.sheet.specs.Plan.{counts_title};
 ghost use Rattle.sheet.specs.Reading.{names_at, counts_at, plan_of, rows_at};
-ghost use Rattle.sheet.specs.Due.{Within, names_in};
+ghost use Rattle.sheet.specs.Due.{names_in};
 ghost use Rattle.sheet.specs.Entries.{counted, headed};
 ghost use Rattle.sheet.specs.Stores.{Holds, steps_with, owners_with, displays_with, FilledBy};
 
@@ -13,10 +13,11 @@ use crate::due::Due;
 use crate::fault::SheetFault;
 use crate::flows::all_flows;
 use crate::found::Found;
+use crate::heading::Heading;
 use crate::marks::Cursor;
 use crate::progress::Progress;
 use crate::rows;
-use crate::rows::{Entry, Heading};
+use crate::rows::Entry;
 use control::table::{DISPLAYS, OWNERS, STEPS};
 use display::kind::DisplayKind;
 use policy::refusal::Refusal;
@@ -26,7 +27,6 @@ use theory::limits::MOST_SHEET_BYTES;
 fn first_block<D: DisplayKind>(cursor: &mut Cursor) -> Result<Heading, SheetFault>
     ensures read { headed (behind result cursor.new.at) ≡ on (on_line 1 1 (names_at (names_in counts_title) cursor.old.sheet.now cursor.old.at)) (λ i. on_line 2 1 (counts_at D.DisplayKind.kind cursor.old.sheet.now i)) }
     ensures sheet { cursor.new.sheet ≡ cursor.old.sheet }
-    ensures within { IfOk result (λ h. Within h.counts) }
 {
     rows::counts_title(cursor).map_err(|fault| fault.on_line(1).in_block(1))?;
     rows::counts_row::<D>(cursor).map_err(|fault| fault.on_line(2).in_block(1))
@@ -34,7 +34,6 @@ fn first_block<D: DisplayKind>(cursor: &mut Cursor) -> Result<Heading, SheetFaul
 
 // Reads the rows before the flows and keeps nothing of them; the line behind them.
 fn pass_rows<D: DisplayKind>(cursor: &mut Cursor, heading: &Heading) -> Result<usize, SheetFault>
-    requires { Within heading.now.counts }
     ensures read { behind result cursor.new.at ≡ on (rows_at D.DisplayKind.reads (counted heading.now) cursor.old.sheet.now (plan_of (counted heading.now)) 3 cursor.old.at) (λ z. Ok (3 + length (plan_of (counted heading.now)), z.1)) }
     ensures sheet { cursor.new.sheet ≡ cursor.old.sheet }
 {
@@ -74,7 +73,7 @@ fn fill<D: DisplayKind>(
     owners: &mut [u8],
     displays: &mut [D::Cell],
 ) -> Result<(), SheetFault>
-    requires { (Within heading.now.counts) × (store_suffices (length steps.old) (length owners.old) (length displays.old) ≡ true) }
+    requires { store_suffices (length steps.old) (length owners.old) (length displays.old) ≡ true }
     ensures read { result ≡ on (rows_at D.DisplayKind.reads (counted heading.now) cursor.now.sheet.now (plan_of (counted heading.now)) 3 cursor.now.at) (λ _. Ok tt) }
     ensures steps { FilledBy (λ e. e.steps) (rows_at D.DisplayKind.reads (counted heading.now) cursor.now.sheet.now (plan_of (counted heading.now)) 3 cursor.now.at) steps.old steps.new }
     ensures owners { FilledBy (λ e. e.owners) (rows_at D.DisplayKind.reads (counted heading.now) cursor.now.sheet.now (plan_of (counted heading.now)) 3 cursor.now.at) owners.old owners.new }
@@ -110,7 +109,7 @@ pub fn read<D: DisplayKind>(
     let heading = first_block::<D>(&mut cursor)?;
     let first = cursor;
     let line = pass_rows::<D>(&mut cursor, &heading)?;
-    let board = all_flows(&mut cursor, line, &heading.counts)?;
+    let board = all_flows(&mut cursor, line, &heading)?;
     fill::<D>(&first, &heading, steps, owners, displays)?;
     Ok(Found {
         counts: heading.counts,

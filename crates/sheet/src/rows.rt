@@ -4,23 +4,17 @@ ghost use Rattle.theory.specs.Limits.{Count};
 ghost use Rattle.sheet.specs.Marks.{number_reads};
 ghost use Rattle.sheet.specs.Faults.{behind, place_behind};
 ghost use Rattle.sheet.specs.Reading.{names_at, row_at, counts_at, value_at};
-ghost use Rattle.sheet.specs.Due.{Within, Stands, names_in, title_of, row_of};
+ghost use Rattle.sheet.specs.Due.{Stands, names_in, title_of, row_of};
 ghost use Rattle.sheet.specs.Plan.{counts_title};
 ghost use Rattle.sheet.specs.Entries.{counted, headed, told, Kinded};
 
 use crate::due::{Block, Due};
 use crate::fault::MarkFault;
+use crate::heading::Heading;
 use crate::marks::Cursor;
 use control::table::Counts;
 use display::kind::DisplayKind;
 use theory::limits::{MOST_COMMANDS, MOST_CONSOLES, MOST_STATES};
-
-// What the first block says.
-#[derive(Clone, Copy)]
-pub struct Heading {
-    pub counts: Counts,
-    pub start: usize,
-}
 
 // What a row adds to the tables.
 #[derive(Clone, Copy)]
@@ -78,7 +72,6 @@ pub(crate) fn row<D: DisplayKind>(
     heading: &Heading,
     due: Due,
 ) -> Result<Entry<D>, MarkFault>
-    requires { Within heading.now.counts }
     ensures read { told (behind result cursor.new.at) ≡ value_at D.DisplayKind.reads (counted heading.now) cursor.old.sheet.now (row_of heading.now.counts due) cursor.old.at }
     ensures sheet { cursor.new.sheet ≡ cursor.old.sheet }
     ensures kind { IfOk result (Kinded due) }
@@ -119,7 +112,6 @@ pub(crate) fn counts_title(cursor: &mut Cursor) -> Result<(), MarkFault>
 pub(crate) fn counts_row<D: DisplayKind>(cursor: &mut Cursor) -> Result<Heading, MarkFault>
     ensures read { headed (behind result cursor.new.at) ≡ counts_at D.DisplayKind.kind cursor.old.sheet.now cursor.old.at }
     ensures sheet { cursor.new.sheet ≡ cursor.old.sheet }
-    ensures within { IfOk result (λ h. Within h.counts) }
 {
     let states = cursor.ranged(1, MOST_STATES, b' ')?;
     let commands = cursor.ranged(1, MOST_COMMANDS, b' ')?;

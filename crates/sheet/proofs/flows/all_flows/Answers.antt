@@ -12,13 +12,13 @@ pub loop-pair-init : goal.loop-pair-init
 loop-pair-init c =
     let bare = c.in_ok-board.ensures.bare in
     record {
-      listing = listing_start c.args.counts.now c.args.cursor.now.sheet.now c.args.line c.args.cursor.now.at c.in_ok-board.board (lists_none c.args.counts.now c.in_ok-board.board (ap (λ b. b.consoles) bare) (ap (λ b. b.commands) bare) (λ u v. ap (λ b. b.flows u v) bare) (λ a. ap (λ b. b.locked a) bare));
+      listing = listing_start c.args.heading.now.counts c.args.cursor.now.sheet.now c.args.line c.args.cursor.now.at c.in_ok-board.board (lists_none c.args.heading.now.counts c.in_ok-board.board (ap (λ b. b.consoles) bare) (ap (λ b. b.commands) bare) (λ u v. ap (λ b. b.flows u v) bare) (λ a. ap (λ b. b.locked a) bare));
       sheet = refl;
     }
 
 pub returns-in_err-pair : goal.returns-in_err-pair
 returns-in_err-pair c =
-    let n = c.args.counts.now in
+    let n = c.args.heading.now.counts in
     let s = c.args.cursor.now.sheet.now in
     let l = c.loop-pair in
     let f = c.in_err-pair.field-0.0 in
@@ -29,12 +29,12 @@ returns-in_err-pair c =
 
 pub loop-pair-preserved : goal.loop-pair-preserved
 loop-pair-preserved c =
-    let n = c.args.counts.now in
+    let n = c.args.heading.now.counts in
     let s = c.args.cursor.now.sheet.now in
     let l = c.loop-pair in
     let p = c.in-Some.pair in
     let at = c.next_flow.new.cursor.at in
-    let some : 0 < n.consoles = omega (arith, c.requires.0.consoles.0) in
+    let some : 0 < n.consoles = omega (arith, c.args.heading.now.within.consoles.0) in
     let bound : (l.low ≤ p) × (p < n.consoles * n.consoles) = rw c.in-Some.is at c.in_ok-pair.ensures.bound in
     let next = came n.consoles l.low l.row s l.cursor.at p at (ap (λ o. Ok (o, at)) (sym c.in-Some.is) ∙ c.in_ok-pair.ensures.read ∙ ap (λ b. flow_next n.consoles l.low l.row b.now l.cursor.at) l.invariant.sheet) in
     let board = c.allow.ensures.board ∙ cond-true _ _ _ (ap is_ok (sym c.allow.ensures.answer ∙ c.in_ok-allow.was)) in
@@ -46,7 +46,7 @@ loop-pair-preserved c =
 
 pub returns : goal.returns
 returns c =
-    let n = c.args.counts.now in
+    let n = c.args.heading.now.counts in
     let s = c.args.cursor.now.sheet.now in
     let l = c.loop-pair in
     let at = c.next_flow.new.cursor.at in

@@ -16,7 +16,7 @@ loop-init g c =
     let a = c.args.cursor.now in
     let e = c.start-progress.ensures in
     record {
-      ready = subst (Ready h.counts) (sym e) (pass_ready reads h c.requires a);
+      ready = subst (Ready h.counts) (sym e) (pass_ready reads h h.within a);
       lines = ap (line_behind h.counts) e ∙ pass_lines reads h a;
       rest = ap (λ R. on {B = ℕ} R (λ z. Ok z.1)) (pass_whole reads h a) ∙ ap (reached reads h) (sym e);
     }

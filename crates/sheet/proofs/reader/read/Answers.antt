@@ -53,10 +53,9 @@ returns-in_err-line g c =
 pub all_flows-requires : goal.all_flows-requires
 all_flows-requires g c =
     let h = c.in_ok-heading.heading in
-    let w = c.in_ok-heading.ensures.within in
     let before = c.first_block.new.cursor in
     let passed = rows_passed (3 + length (plan_of (counted h))) (rows_at g.D.DisplayKind.reads (counted h) before.sheet.now (plan_of (counted h)) 3 before.at) c.in_ok-line.line c.pass_rows.new.cursor.at c.in_ok-line.ensures.read in
-    (w, subst (λ n. n ≤ 3631) (sym passed.2) (line_bound h w))
+    subst (λ n. n ≤ 3631) (sym passed.2) (line_bound h h.within)
 
 pub returns-in_err-board : goal.returns-in_err-board
 returns-in_err-board g c =

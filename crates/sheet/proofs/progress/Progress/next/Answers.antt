@@ -17,7 +17,7 @@ returns-in_err-entry g c =
     let f = c.in_err-entry.field-0.0 in
     let fault : Err f ≡ on_line p.line (number_of d) (value_at g.D.DisplayKind.reads (counted h) p.cursor.sheet.now (row_of h.counts d) p.cursor.at) = grind (arith, common_steps) in
     left_with _ _ c.from_residual.result f c.from_residual.ensures.1
-    (faulted g.D.DisplayKind.reads h p d c.in-Some.is c.requires.1 f fault)
+    (faulted g.D.DisplayKind.reads h p d c.in-Some.is c.requires f fault)
 
 pub returns : goal.returns
 returns g c =
@@ -27,4 +27,4 @@ returns g c =
     let v = c.in_ok-entry.entry in
     let entry : Ok (value_of v, c.row.new.cursor.at) ≡ on_line p.line (number_of d) (value_at g.D.DisplayKind.reads (counted h) p.cursor.sheet.now (row_of h.counts d) p.cursor.at) = grind (arith, common_steps) in
     let kind : Kinded d v = grind (arith, common_steps) in
-    stepped g.D.DisplayKind.reads h p d c.in-Some.is c.requires.1 c.requires.0 _ v c.after-self.ensures refl c.row.ensures.sheet kind entry
+    stepped g.D.DisplayKind.reads h p d c.in-Some.is c.requires h.within _ v c.after-self.ensures refl c.row.ensures.sheet kind entry
