@@ -11,7 +11,7 @@ use Rattle.sheet.specs.Faults.{on, on_line}
 use Rattle.sheet.specs.Plan.{counts_title}
 use Rattle.sheet.specs.Reading.{Counted, Entries, Sheet, Value, nothing, names_at, counts_at, rows_at, flows_at, plan_of, sheet_read}
 use Rattle.sheet.specs.Due.{Within, names_in}
-use Rattle.sheet.specs.Entries.{counted}
+use Rattle.sheet.specs.Entries.{counted, first_at}
 use Rattle.sheet.specs.Boards.{Lists, BoardAs}
 use Rattle.sheet.specs.Stores.{FilledBy}
 use Rattle.sheet.specs.declared.fault.MarkFault.{MarkFault}
@@ -25,27 +25,24 @@ pub line_bound : (h : Heading) → Within h.counts → 3 + length (plan_of (coun
 line_bound h w = omega (arith, few_rows h.counts w, ap length (all_due h.counts))
 
 module _ {D : Type 0} (kind : List ℕ) (reads : List ℕ → Result D Cause) (s : List ℕ) where
-  -- the first block, and what stands behind it
-  abbrev first_at : Result (Counted × ℕ) SheetFault
-  first_at = on (on_line 1 1 (names_at (names_in counts_title) s 0)) (λ i. on_line 2 1 (counts_at kind s i))
-
+  -- what stands behind the first block
   abbrev flows_behind : Counted → ℕ → Result (List ℕ) SheetFault
   flows_behind c i = flows_at c.consoles s (c.consoles * c.consoles) 0 (3 + length (plan_of c)) i
 
   abbrev behind : Counted × ℕ → Result (Sheet D) SheetFault
   behind c = on (rows_at reads c.0 s (plan_of c.0) 3 c.1) (λ e. on (flows_behind c.0 e.1) (λ ps. Ok (record { counted = c.0; entries = e.0; flows = ps })))
 
-  first_then : sheet_read kind reads s ≡ on first_at behind
+  first_then : sheet_read kind reads s ≡ on (first_at kind s 0) behind
   first_then = by (names_at (names_in counts_title) s 0)
     where
       by : (N : Result ℕ MarkFault) → on {A = Value D × ℕ} (on_line 1 1 (on {B = Value D × ℕ} N (λ j. Ok (nothing, j)))) (λ t. on (on_line 2 1 (counts_at kind s t.1)) behind) ≡ on (on (on_line 1 1 N) (λ i. on_line 2 1 (counts_at kind s i))) behind
       by (Ok j) = refl
       by (Err f) = refl
 
-  pub first_fault : (f : SheetFault) → Err f ≡ first_at → sheet_read kind reads s ≡ Err f
+  pub first_fault : (f : SheetFault) → Err f ≡ first_at kind s 0 → sheet_read kind reads s ≡ Err f
   first_fault f e = first_then ∙ ap (λ R. on R behind) (sym e)
 
-  module _ (c : Counted) (i : ℕ) (first : Ok (c, i) ≡ first_at) where
+  module _ (c : Counted) (i : ℕ) (first : Ok (c, i) ≡ first_at kind s 0) where
     pub rows_fault : (f : SheetFault) → rows_at reads c s (plan_of c) 3 i ≡ Err f → sheet_read kind reads s ≡ Err f
     rows_fault f e = first_then ∙ ap (λ R. on R behind) (sym first) ∙ ap (λ R. on {A = Entries D × ℕ} R (λ z. on (flows_behind c z.1) (λ ps. Ok (record { counted = c; entries = z.0; flows = ps })))) e
 

@@ -1,5 +1,5 @@
 -- A pass over the rows before the flows: one row, the end, and the fault that stops it.
-use Rattle.std.specs.Prelude.{◌≡◌, ℕ, ◌+◌, ◌≤◌, List, length, Some, None, Ok, Err, Result}
+use Rattle.std.specs.Prelude.{◌≡◌, ℕ, ◌+◌, ◌≤◌, List, length, Some, None, Ok, Err, Option, Result, MatchOption, MatchResult}
 use Rattle.mark.specs.declared.cause.Cause.{Cause}
 use Rattle.control.specs.declared.table.Counts.{Counts}
 use Rattle.sheet.specs.Faults.{on}
@@ -51,6 +51,10 @@ module _ {D : Type 0} (reads : List ℕ → Result D Cause) (h : Heading) where
 
   abbrev pub Faulted : Progress → SheetFault → Type 0
   Faulted p f = left_at p ≡ Err f
+
+  -- what reading the row that is due answers, and how far it comes
+  abbrev pub Went : Progress → Result (Option (Due × Entry D)) SheetFault → Progress → Type 0
+  Went p r q = MatchResult r (λ o. MatchOption o (Ended p q) (λ y. Stepped p q y.0 y.1)) (Faulted p)
 
 -- the names of block 2 are due, behind the two lines of block 1
 abbrev pub started : Cursor → Progress

@@ -1,6 +1,6 @@
 // How far the reading of a sheet has come: the row that is due, its line and its place.
-ghost use Rattle.std.specs.Prelude.{◌≡◌, MatchOption, MatchResult};
-ghost use Rattle.sheet.specs.Passes.{Ready, Stepped, Ended, Faulted, started};
+ghost use Rattle.std.specs.Prelude.{◌≡◌};
+ghost use Rattle.sheet.specs.Passes.{Ready, Went, started};
 
 use crate::due::{Block, Due};
 use crate::fault::SheetFault;
@@ -37,7 +37,7 @@ impl<'a> Progress<'a> {
         heading: &Heading,
     ) -> Result<Option<(Due, Entry<D>)>, SheetFault>
         requires { Ready heading.now.counts self.old }
-        ensures { MatchResult result (λ o. MatchOption o (Ended self.old self.new) (λ y. Stepped D.DisplayKind.reads heading.now self.old self.new y.0 y.1)) (λ f. Faulted D.DisplayKind.reads heading.now self.old f) }
+        ensures { Went D.DisplayKind.reads heading.now self.old result self.new }
     {
         let Some(due) = self.due else {
             return Ok(None);

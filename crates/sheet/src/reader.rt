@@ -1,12 +1,10 @@
 // Reading a sheet: once over the whole of it, and then again to fill the tables.
 ghost use Rattle.std.specs.Prelude.{◌≡◌, ◌+◌, true, map, length, IfOk, Ok};
 ghost use Rattle.control.specs.Tables.{store_suffices};
-ghost use Rattle.sheet.specs.Calls.{FoundAs, read_answer, store_after};
-ghost use Rattle.sheet.specs.Faults.{on, on_line, behind};
-ghost use Rattle.sheet.specs.Plan.{counts_title};
-ghost use Rattle.sheet.specs.Reading.{names_at, counts_at, plan_of, rows_at};
-ghost use Rattle.sheet.specs.Due.{names_in};
-ghost use Rattle.sheet.specs.Entries.{counted, headed};
+ghost use Rattle.sheet.specs.Calls.{FoundAs, read_into, store_after};
+ghost use Rattle.sheet.specs.Faults.{on, behind};
+ghost use Rattle.sheet.specs.Reading.{plan_of};
+ghost use Rattle.sheet.specs.Entries.{counted, headed, first_at, rows_behind};
 ghost use Rattle.sheet.specs.Stores.{Holds, steps_with, owners_with, displays_with, FilledBy};
 
 use crate::due::Due;
@@ -25,7 +23,7 @@ use theory::limits::MOST_SHEET_BYTES;
 
 // The first block: the counts and the start.
 fn first_block<D: DisplayKind>(cursor: &mut Cursor) -> Result<Heading, SheetFault>
-    ensures read { headed (behind result cursor.new.at) ≡ on (on_line 1 1 (names_at (names_in counts_title) cursor.old.sheet.now cursor.old.at)) (λ i. on_line 2 1 (counts_at D.DisplayKind.kind cursor.old.sheet.now i)) }
+    ensures read { headed (behind result cursor.new.at) ≡ first_at D.DisplayKind.kind cursor.old.sheet.now cursor.old.at }
     ensures sheet { cursor.new.sheet ≡ cursor.old.sheet }
 {
     rows::counts_title(cursor).map_err(|fault| fault.on_line(1).in_block(1))?;
@@ -34,7 +32,7 @@ fn first_block<D: DisplayKind>(cursor: &mut Cursor) -> Result<Heading, SheetFaul
 
 // Reads the rows before the flows and keeps nothing of them; the line behind them.
 fn pass_rows<D: DisplayKind>(cursor: &mut Cursor, heading: &Heading) -> Result<usize, SheetFault>
-    ensures read { behind result cursor.new.at ≡ on (rows_at D.DisplayKind.reads (counted heading.now) cursor.old.sheet.now (plan_of (counted heading.now)) 3 cursor.old.at) (λ z. Ok (3 + length (plan_of (counted heading.now)), z.1)) }
+    ensures read { behind result cursor.new.at ≡ on (rows_behind D.DisplayKind.reads heading.now cursor.old.sheet.now cursor.old.at) (λ z. Ok (3 + length (plan_of (counted heading.now)), z.1)) }
     ensures sheet { cursor.new.sheet ≡ cursor.old.sheet }
 {
     let mut progress = Progress::start(*cursor);
@@ -74,10 +72,10 @@ fn fill<D: DisplayKind>(
     displays: &mut [D::Cell],
 ) -> Result<(), SheetFault>
     requires { store_suffices (length steps.old) (length owners.old) (length displays.old) ≡ true }
-    ensures read { result ≡ on (rows_at D.DisplayKind.reads (counted heading.now) cursor.now.sheet.now (plan_of (counted heading.now)) 3 cursor.now.at) (λ _. Ok tt) }
-    ensures steps { FilledBy (λ e. e.steps) (rows_at D.DisplayKind.reads (counted heading.now) cursor.now.sheet.now (plan_of (counted heading.now)) 3 cursor.now.at) steps.old steps.new }
-    ensures owners { FilledBy (λ e. e.owners) (rows_at D.DisplayKind.reads (counted heading.now) cursor.now.sheet.now (plan_of (counted heading.now)) 3 cursor.now.at) owners.old owners.new }
-    ensures displays { FilledBy (λ e. map D.DisplayKind.cell e.displays) (rows_at D.DisplayKind.reads (counted heading.now) cursor.now.sheet.now (plan_of (counted heading.now)) 3 cursor.now.at) displays.old displays.new }
+    ensures read { result ≡ on (rows_behind D.DisplayKind.reads heading.now cursor.now.sheet.now cursor.now.at) (λ _. Ok tt) }
+    ensures steps { FilledBy (λ e. e.steps) (rows_behind D.DisplayKind.reads heading.now cursor.now.sheet.now cursor.now.at) steps.old steps.new }
+    ensures owners { FilledBy (λ e. e.owners) (rows_behind D.DisplayKind.reads heading.now cursor.now.sheet.now cursor.now.at) owners.old owners.new }
+    ensures displays { FilledBy (λ e. map D.DisplayKind.cell e.displays) (rows_behind D.DisplayKind.reads heading.now cursor.now.sheet.now cursor.now.at) displays.old displays.new }
 {
     let mut progress = Progress::start(*cursor);
     while let Some((due, entry)) = progress.next::<D>(heading)? {
@@ -94,10 +92,10 @@ pub fn read<D: DisplayKind>(
     owners: &mut [u8],
     displays: &mut [D::Cell],
 ) -> Result<Found, Refusal>
-    ensures found { FoundAs result (read_answer D.DisplayKind.kind D.DisplayKind.reads (length steps.old) (length owners.old) (length displays.old) sheet.now) }
-    ensures steps { steps.new ≡ store_after (λ x. x.entries.steps) (read_answer D.DisplayKind.kind D.DisplayKind.reads (length steps.old) (length owners.old) (length displays.old) sheet.now) steps.old }
-    ensures owners { owners.new ≡ store_after (λ x. x.entries.owners) (read_answer D.DisplayKind.kind D.DisplayKind.reads (length steps.old) (length owners.old) (length displays.old) sheet.now) owners.old }
-    ensures displays { displays.new ≡ store_after (λ x. map D.DisplayKind.cell x.entries.displays) (read_answer D.DisplayKind.kind D.DisplayKind.reads (length steps.old) (length owners.old) (length displays.old) sheet.now) displays.old }
+    ensures found { FoundAs result (read_into D.DisplayKind.kind D.DisplayKind.reads steps.old owners.old displays.old sheet.now) }
+    ensures steps { steps.new ≡ store_after (λ x. x.entries.steps) (read_into D.DisplayKind.kind D.DisplayKind.reads steps.old owners.old displays.old sheet.now) steps.old }
+    ensures owners { owners.new ≡ store_after (λ x. x.entries.owners) (read_into D.DisplayKind.kind D.DisplayKind.reads steps.old owners.old displays.old sheet.now) owners.old }
+    ensures displays { displays.new ≡ store_after (λ x. map D.cell x.entries.displays) (read_into D.DisplayKind.kind D.DisplayKind.reads steps.old owners.old displays.old sheet.now) displays.old }
 {
     if sheet.len() > MOST_SHEET_BYTES {
         return Err(Refusal::SheetTooLong);
