@@ -37,7 +37,8 @@ module _ {m : MeaningValue} {n : ℕ} {F : Flow} {owner : ℕ → ℕ} {u : ℕ}
   linked_through c d e = joined c (rw e (turned d))
 
   -- what each link between commands below n keeps, a chain keeps
-  pub chain_keeps : {A : Type 0} (left : List ℕ → A) → ((p q : List ℕ) → Below n p → Below n q → Link m n F owner u p q → left p ≡ left q) → {p q : List ℕ} → Linked m n F owner u p q → Below n p → left p ≡ left q
+  pub chain_keeps : {A : Type 0} (left : List ℕ → A)
+      → ((p q : List ℕ) → Below n p → Below n q → Link m n F owner u p q → left p ≡ left q) → {p q : List ℕ} → Linked m n F owner u p q → Below n p → left p ≡ left q
   chain_keeps left kept done h = refl
   chain_keeps left kept (there l c) h = let g = there_within l h in kept _ _ h g l ∙ chain_keeps left kept c g
   chain_keeps left kept (back l c) h = let g = back_within l h in sym (kept _ _ g h l) ∙ chain_keeps left kept c g

@@ -2,7 +2,7 @@
 use Rattle.std.proofs.Common.{◌≡◌, ℕ, ◌<◌, true, false, List, [], ◌∷◌, ap, ◌∙◌, subst, inl, inr, arith}
 use Rattle.std.proofs.lemmas.Bool.{not_from_false, and_parts, or_right, ne_eqb, cases_Bool}
 use Rattle.theory.specs.Flows.{Flow}
-use Rattle.links.specs.Sequences.{All, some_of}
+use Rattle.links.specs.Sequences.{Every, some_of}
 use Rattle.links.specs.Transmitted.{Told}
 use Rattle.links.specs.Links.{drops, exchanges, Linked, done, there}
 use Rattle.links.specs.Laws.{Setting}
@@ -19,7 +19,7 @@ module _ {k n : ℕ} {F : Flow} {owner : ℕ → ℕ} {u : ℕ} (setting : Setti
 
   -- P holds of each console watched before r
   abbrev Each : (ℕ → Type 0) → List ℕ → Type 0
-  Each P r = All P (watched owner u r)
+  Each P r = Every P (watched owner u r)
 
   -- some console watched before r may be affected by the giver of c
   abbrev Heard : ℕ → List ℕ → Type 0
@@ -84,12 +84,15 @@ module _ {k n : ℕ} {F : Flow} {owner : ℕ → ℕ} {u : ℕ} (setting : Setti
           rest = b ∷ s;
           below = (below, pulled.below);
           chain = joined pulled.chain (exchanged a b s r a_below ab ba apart);
-          agrees = all_with (λ x not_both e. hears_agrees F owner (knows F owner t) (knows F owner (a ∷ s)) b x e pulled.agrees.0 ∙ exchange_agrees F owner (knows F owner s) a b x ab ba not_both) (watched owner u r) apart pulled.agrees.1;
+          agrees = all_with (λ x not_both e.
+              hears_agrees F owner (knows F owner t) (knows F owner (a ∷ s)) b x e pulled.agrees.0
+              ∙ exchange_agrees F owner (knows F owner s) a b x ab ba not_both) (watched owner u r) apart pulled.agrees.1;
         }
 
     pull_past_heard : (b : ℕ) (t r : List ℕ) → b < n → Apart a b r → Heard a r → Heard b r → Shown (b ∷ t) r → Shown t r → (Heard a (b ∷ r) → Shown t (b ∷ r) → Pulled a t (b ∷ r)) → Pulled a (b ∷ t) r
     pull_past_heard b t r below apart a-heard b-heard shown before on =
-        let apart_and_shown : Each (λ x. (both F (owner a) (owner b) x ≡ false) × Shows F owner a side count x (knows F owner (b ∷ t) x)) r = all_with (λ x not_both h. (not_both, h)) (watched owner u r) apart shown in
+        let apart_and_shown : Each (λ x. (both F (owner a) (owner b) x ≡ false) × Shows F owner a side count x (knows F owner (b ∷ t) x)) r =
+        all_with (λ x not_both h. (not_both, h)) (watched owner u r) apart shown in
         let (x, b_to_x, at_x) = one_passes (F (owner b)) (watched owner u r) b-heard apart_and_shown in
         let (y, a_to_y, at_y) = one_passes (F (owner a)) (watched owner u r) a-heard before in
         let (ab, ba, giver) = giver_shows F owner a side count b t x y b_to_x at_x.0 at_x.1 a_to_y at_y in

@@ -2,7 +2,7 @@
 use Rattle.std.proofs.Common.{◌≡◌, ℕ, ◌<◌, Bool, true, false, cond, List, [], ◌∷◌, sym, ◌∙◌, ap₂}
 use Rattle.std.proofs.lemmas.Bool.{both_ways, cond-false, cond_both}
 use Rattle.theory.specs.Flows.{Flow}
-use Rattle.links.specs.Sequences.{All}
+use Rattle.links.specs.Sequences.{Every}
 use Rattle.links.specs.Meaning.{MeaningValue}
 use Rattle.links.specs.Links.{Link, drops, exchanges, later, Linked, done, there}
 use Rattle.links.specs.Laws.{Setting, Faithful}
@@ -19,9 +19,9 @@ pub record Selects (m : MeaningValue) (n : ℕ) (F : Flow) (owner : ℕ → ℕ)
   -- a link leaves the answer on each command before it
   pub same : (a : ℕ) {p q : List ℕ} → Link m n F owner u p q → keep a p ≡ keep a q
   -- what a link drops is not kept
-  pub unkept : (a : ℕ) (r : List ℕ) → m.drop F u (owner a) ≡ true → All (λ c. m.after_drop F u (owner a) (owner c) ≡ true) r → keep a r ≡ false
+  pub unkept : (a : ℕ) (r : List ℕ) → m.drop F u (owner a) ≡ true → Every (λ c. m.after_drop F u (owner a) (owner c) ≡ true) r → keep a r ≡ false
   -- what is not kept may be dropped before what is left
-  pub droppable : (a : ℕ) (r : List ℕ) → Below n r → keep a r ≡ false → (m.drop F u (owner a) ≡ true) × All (λ c. m.after_drop F u (owner a) (owner c) ≡ true) (left r)
+  pub droppable : (a : ℕ) (r : List ℕ) → Below n r → keep a r ≡ false → (m.drop F u (owner a) ≡ true) × Every (λ c. m.after_drop F u (owner a) (owner c) ≡ true) (left r)
 
 module _ {m : MeaningValue} {n : ℕ} {F : Flow} {owner : ℕ → ℕ} {u : ℕ} {keep : ℕ → List ℕ → Bool} {left : List ℕ → List ℕ} (selects : Selects m n F owner u keep left) where
   link_keeps_left : {p q : List ℕ} → Link m n F owner u p q → Below n p → left p ≡ left q

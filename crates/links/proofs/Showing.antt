@@ -36,7 +36,8 @@ module _ (F : Flow) (owner : ℕ → ℕ) where
     }
 
     -- Let x be told of b and not of a, and y of a before b.
-    module _ (x y : ℕ) (b_to_x : F (owner b) x ≡ true) (not_both : both F (owner a) (owner b) x ≡ false) (at_x : Shows F owner a side count x (knows F owner (b ∷ t) x)) (a_to_y : F (owner a) y ≡ true) (at_y : Shows F owner a side count y (knows F owner t y)) where
+    module _ (x y : ℕ) (b_to_x : F (owner b) x ≡ true) (not_both : both F (owner a) (owner b) x ≡ false)
+        (at_x : Shows F owner a side count x (knows F owner (b ∷ t) x)) (a_to_y : F (owner a) y ≡ true) (at_y : Shows F owner a side count y (knows F owner t y)) where
       a_to_x : F (owner a) x ≡ false
       a_to_x = grind arith
 

@@ -2,7 +2,7 @@
 use Rattle.std.proofs.Common.{◌≡◌, ℕ, ◌<◌, Bool, true, false, cond, eqb, List, [], ◌∷◌, refl, ap, inl, inr}
 use Rattle.std.proofs.lemmas.Bool.{false≢true, not-true, not_from_false, eq-eqb, ne_eqb, or_left, cond-false, cond_both, cases_Bool}
 use Rattle.theory.specs.Flows.{Flow}
-use Rattle.links.specs.Sequences.{All, some_of}
+use Rattle.links.specs.Sequences.{Every, some_of}
 use Rattle.links.specs.Sources.{sources, intransitive_purge}
 use Rattle.links.specs.Links.{Link, drops, exchanges, later}
 use Rattle.links.specs.Laws.{Setting, MeaningLaws}
@@ -22,22 +22,23 @@ added_where_affecting F w self s false e =
 
 module _ {k n : ℕ} {F : Flow} {owner : ℕ → ℕ} {u : ℕ} (setting : Setting k n F owner u) where
   -- a command is kept where its console may affect a source of what follows
-  purge_step : (a : ℕ) (r : List ℕ) → a < n → intransitive_purge F owner u (a ∷ r) ≡ cond (some_of (F (owner a)) (sources F owner u r)) (a ∷ intransitive_purge F owner u r) (intransitive_purge F owner u r)
+  purge_step : (a : ℕ) (r : List ℕ) → a < n
+      → intransitive_purge F owner u (a ∷ r) ≡ cond (some_of (F (owner a)) (sources F owner u r)) (a ∷ intransitive_purge F owner u r) (intransitive_purge F owner u r)
   purge_step a r below =
       let w = owner a in
       let s = sources F owner u r in
       rw (added_where_affecting F w (setting.selves w (setting.owned a below)) s (some_of (F w) s) refl)
 
   -- what holds of the console and of each giver holds of each source
-  all_of_sources : (P : ℕ → Type 0) → P u → (r : List ℕ) → All (λ c. P (owner c)) r → All P (sources F owner u r)
+  all_of_sources : (P : ℕ → Type 0) → P u → (r : List ℕ) → Every (λ c. P (owner c)) r → Every P (sources F owner u r)
   all_of_sources P at-u [] h = (at-u, tt)
   all_of_sources P at-u (a ∷ r) h =
       let s = sources F owner u r in
       let on = all_of_sources P at-u r h.1 in
-      cond_both (some_of (F (owner a)) s) (owner a ∷ s) s (All P) (λ e. (h.0, on)) (λ e. on)
+      cond_both (some_of (F (owner a)) s) (owner a ∷ s) s (Every P) (λ e. (h.0, on)) (λ e. on)
 
   -- and the other way round, of the console and of each giver of what is left
-  all_from_sources : (P : ℕ → Type 0) (r : List ℕ) → Below n r → All P (sources F owner u r) → P u × All (λ c. P (owner c)) (intransitive_purge F owner u r)
+  all_from_sources : (P : ℕ → Type 0) (r : List ℕ) → Below n r → Every P (sources F owner u r) → P u × Every (λ c. P (owner c)) (intransitive_purge F owner u r)
   all_from_sources P [] below h = (h.0, tt)
   all_from_sources P (a ∷ r) below h =
       elim (cases_Bool (some_of (F (owner a)) (sources F owner u r))) [
@@ -49,7 +50,8 @@ module _ {k n : ℕ} {F : Flow} {owner : ℕ → ℕ} {u : ℕ} (setting : Setti
       ]
 
   -- a console of which a command may be dropped affects no source of what follows
-  affects_no_source : (w : ℕ) (r : List ℕ) → intransitive_purge_meaning.drop F u w ≡ true → All (λ c. intransitive_purge_meaning.after_drop F u w (owner c) ≡ true) r → some_of (F w) (sources F owner u r) ≡ false
+  affects_no_source : (w : ℕ) (r : List ℕ) → intransitive_purge_meaning.drop F u w ≡ true
+      → Every (λ c. intransitive_purge_meaning.after_drop F u w (owner c) ≡ true) r → some_of (F w) (sources F owner u r) ≡ false
   affects_no_source w r dropped after =
       all_fail (F w) (sources F owner u r)
       (all_of_sources (λ x. F w x ≡ false) (not-true (F w u) dropped) r (all_map (λ c. not-true (F w (owner c))) r after))
@@ -77,6 +79,7 @@ module _ {k n : ℕ} {F : Flow} {owner : ℕ → ℕ} {u : ℕ} (setting : Setti
 pub intransitive_purge_laws : MeaningLaws intransitive_purge_meaning
 intransitive_purge_laws =
     laws
-    (selecting_faithful intransitive_purge_meaning intransitive_purge (λ F owner u a r. some_of (F (owner a)) (sources F owner u r)) intransitive_purge_alike (λ k n F owner u setting. selects setting))
+    (selecting_faithful intransitive_purge_meaning intransitive_purge
+    (λ F owner u a r. some_of (F (owner a)) (sources F owner u r)) intransitive_purge_alike (λ k n F owner u setting. selects setting))
     intransitive_purge_questions
     intransitive_purge_evenhanded

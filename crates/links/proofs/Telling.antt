@@ -3,7 +3,7 @@ use Rattle.std.proofs.Common.{◌≡◌, ℕ, true, false, cond, not, List, [], 
 use Rattle.std.proofs.lemmas.Bool.{not-true, cond-false}
 use Rattle.std.proofs.lemmas.List.Sums.{fold_push}
 use Rattle.theory.specs.Flows.{Flow}
-use Rattle.links.specs.Sequences.{All}
+use Rattle.links.specs.Sequences.{Every}
 use Rattle.links.specs.Transmitted.{Told, nothing, told, hears, hears_all}
 use Rattle.links.specs.Links.{Link, drops, exchanges, later}
 use Rattle.links.specs.Three.{both, transmitted_meaning}
@@ -16,13 +16,14 @@ module _ (F : Flow) (owner : ℕ → ℕ) where
   hears_agrees f g a z at-z at-giver = ap₂ (λ x y. cond (F (owner a) z) (told x y a) x) at-z at-giver
 
   -- and so does a sequence, where the console and each giver have it
-  hears_all_agrees : (f g : ℕ → Told) (u : ℕ) (r : List ℕ) → f u ≡ g u → All (λ c. f (owner c) ≡ g (owner c)) r → hears_all F owner f r u ≡ hears_all F owner g r u
+  hears_all_agrees : (f g : ℕ → Told) (u : ℕ) (r : List ℕ) → f u ≡ g u → Every (λ c. f (owner c) ≡ g (owner c)) r → hears_all F owner f r u ≡ hears_all F owner g r u
   hears_all_agrees f g u [] at-u h = at-u
   hears_all_agrees f g u (c ∷ r) at-u h =
       hears_all_agrees (hears F owner f c) (hears F owner g c) u r (hears_agrees f g c u at-u h.0) (all_map (λ d e. hears_agrees f g c (owner d) e h.0) r h.1)
 
   -- Neighbours may be exchanged where neither giver may affect the other and not both may affect the console.
-  pub exchange_agrees : (f : ℕ → Told) (a b z : ℕ) → F (owner a) (owner b) ≡ false → F (owner b) (owner a) ≡ false → both F (owner a) (owner b) z ≡ false → hears F owner (hears F owner f a) b z ≡ hears F owner (hears F owner f b) a z
+  pub exchange_agrees : (f : ℕ → Told) (a b z : ℕ) → F (owner a) (owner b) ≡ false → F (owner b) (owner a) ≡ false → both F (owner a) (owner b) z ≡ false
+      → hears F owner (hears F owner f a) b z ≡ hears F owner (hears F owner f b) a z
   exchange_agrees f a b z ab ba not_both = grind arith
 
   -- what a yes to the exchange question says

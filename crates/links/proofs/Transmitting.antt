@@ -2,7 +2,7 @@
 use Rattle.std.proofs.Common.{◌≡◌, ℕ, Bool, true, false, cond, List, [], ◌∷◌, sym, refl, ◌∙◌, subst, inl, inr}
 use Rattle.std.proofs.lemmas.Bool.{false≢true, cases_Bool}
 use Rattle.theory.specs.Flows.{Flow}
-use Rattle.links.specs.Sequences.{All, some_of}
+use Rattle.links.specs.Sequences.{Every, some_of}
 use Rattle.links.specs.Transmitted.{Told, nothing, told, ta}
 use Rattle.links.specs.Links.{Linked, done}
 use Rattle.links.specs.Laws.{Setting, Faithful, MeaningLaws}
@@ -31,7 +31,7 @@ nothing_unheard false p s b _ = refl
 
 module _ {k n : ℕ} {F : Flow} {owner : ℕ → ℕ} {u : ℕ} (setting : Setting k n F owner u) where
   -- of a sequence that tells no watched console anything, each command is dropped
-  emptied : (t r : List ℕ) → Below n t → All (λ x. nothing ≡ knows F owner t x) (watched owner u r) → Linked transmitted_meaning n F owner u r (onto t r)
+  emptied : (t r : List ℕ) → Below n t → Every (λ x. nothing ≡ knows F owner t x) (watched owner u r) → Linked transmitted_meaning n F owner u r (onto t r)
   emptied [] r below silent = done
   emptied (b ∷ t) r below silent =
       let unheard = all_map (λ x. nothing_unheard (F (owner b) x) (knows F owner t x) (knows F owner t (owner b)) b) (watched owner u r) silent in
@@ -40,7 +40,7 @@ module _ {k n : ℕ} {F : Flow} {owner : ℕ → ℕ} {u : ℕ} (setting : Setti
 
   -- The last command of s is dropped where no watched console hears it; else it is pulled to the end of t,
   -- and what comes before it is linked with its giver watched too.
-  linked : (s t r : List ℕ) → Below n s → Below n t → All (λ x. knows F owner s x ≡ knows F owner t x) (watched owner u r) → Linked transmitted_meaning n F owner u (onto s r) (onto t r)
+  linked : (s t r : List ℕ) → Below n s → Below n t → Every (λ x. knows F owner s x ≡ knows F owner t x) (watched owner u r) → Linked transmitted_meaning n F owner u (onto s r) (onto t r)
   linked [] t r _ below agrees = emptied t r below agrees
   linked (a ∷ s) t r s-below t-below agrees =
       elim (cases_Bool (some_of (F (owner a)) (watched owner u r))) [

@@ -4,7 +4,7 @@ use mathlib.Core.List.{reverse_aux}
 use Rattle.std.proofs.lemmas.List.{reverse-reverse}
 use Rattle.std.proofs.lemmas.Bool.{cond-true, cond-false, cond_both}
 use Rattle.theory.specs.Flows.{Flow}
-use Rattle.links.specs.Sequences.{All}
+use Rattle.links.specs.Sequences.{Every}
 use Rattle.links.specs.Transmitted.{Told, nothing, told, hears, hears_all, ta}
 use Rattle.links.specs.Meaning.{MeaningValue}
 use Rattle.links.specs.Links.{Linked}
@@ -31,7 +31,7 @@ linked_onto (a ∷ s) c = linked_onto s (linked_later a c)
 abbrev pub watched : (ℕ → ℕ) → ℕ → List ℕ → List ℕ
 watched owner u r = map owner r ++ (u ∷ [])
 
-pub all_watched : (P : ℕ → Type 0) (owner : ℕ → ℕ) (u : ℕ) (r : List ℕ) → All P (watched owner u r) → P u × All (λ c. P (owner c)) r
+pub all_watched : (P : ℕ → Type 0) (owner : ℕ → ℕ) (u : ℕ) (r : List ℕ) → Every P (watched owner u r) → P u × Every (λ c. P (owner c)) r
 all_watched P owner u [] h = (h.0, tt)
 all_watched P owner u (c ∷ r) h = let rest = all_watched P owner u r h.1 in (rest.0, (h.0, rest.1))
 
@@ -49,7 +49,8 @@ module _ (F : Flow) (owner : ℕ → ℕ) where
   turned_ta p u = knows_ta (onto p []) [] u ∙ ap (ta F owner u) (turned_back p)
 
   -- what holds of a console that hears one more command, and of one that does not
-  pub one_more : (b : ℕ) (s : List ℕ) (x : ℕ) (P : Told → Type 0) → (F (owner b) x ≡ true → P (told (knows F owner s x) (knows F owner s (owner b)) b)) → (F (owner b) x ≡ false → P (knows F owner s x)) → P (knows F owner (b ∷ s) x)
+  pub one_more : (b : ℕ) (s : List ℕ) (x : ℕ) (P : Told → Type 0)
+      → (F (owner b) x ≡ true → P (told (knows F owner s x) (knows F owner s (owner b)) b)) → (F (owner b) x ≡ false → P (knows F owner s x)) → P (knows F owner (b ∷ s) x)
   one_more b s x = cond_both (F (owner b) x) (told (knows F owner s x) (knows F owner s (owner b)) b) (knows F owner s x)
 
   pub knows_told : (b : ℕ) (s : List ℕ) (x : ℕ) → F (owner b) x ≡ true → knows F owner (b ∷ s) x ≡ told (knows F owner s x) (knows F owner s (owner b)) b

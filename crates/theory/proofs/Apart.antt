@@ -23,15 +23,18 @@ module _ {D : Type 0} (a b : ControlValue D) (L : Lockout) (left : Lawful a) (ri
     moves_left : ltb c a.commands ≡ true → (moved (next_of (product a b)) L (s * b.states + t) c ≡ moved (next_of a) L s c * b.states + t) × (moved (next_of a) L s c < a.states)
     moves_left e =
         let mine : c < a.commands = ltb-true c a.commands e in
-        rw (stepped, within_reach a s c hs mine, e) (grind arith, cond_both (L c) s (a.step s c) (λ x. x < a.states) (λ _. hs) (λ _. left.stays s c hs mine))
+        rw (stepped, within_reach a s c hs mine, e)
+        (grind arith, cond_both (L c) s (a.step s c) (λ x. x < a.states) (λ _. hs) (λ _. left.stays s c hs mine))
 
     -- the right side's lockout of a command is the pair's of that command behind the left side's
-    moves_right : ltb c a.commands ≡ false → let k : ℕ = c - a.commands in let M : Lockout = λ i. L (a.commands + i) in (moved (next_of (product a b)) L (s * b.states + t) c ≡ s * b.states + moved (next_of b) M t k) × (moved (next_of b) M t k < b.states)
+    moves_right : ltb c a.commands ≡ false → let k : ℕ = c - a.commands in let M : Lockout = λ i. L (a.commands + i) in
+        (moved (next_of (product a b)) L (s * b.states + t) c ≡ s * b.states + moved (next_of b) M t k) × (moved (next_of b) M t k < b.states)
     moves_right e =
         let other : a.commands ≤ c = ltb-false c a.commands e in
         let place : c - a.commands < b.commands = omega (arith, hc) in
         let same : a.commands + (c - a.commands) ≡ c = omega arith in
-        rw (stepped, within_reach b t (c - a.commands) ht place, e, same) (grind arith, cond_both (L c) t (b.step t (c - a.commands)) (λ x. x < b.states) (λ _. ht) (λ _. right.stays t (c - a.commands) ht place))
+        rw (stepped, within_reach b t (c - a.commands) ht place, e, same)
+        (grind arith, cond_both (L c) t (b.step t (c - a.commands)) (λ x. x < b.states) (λ _. ht) (λ _. right.stays t (c - a.commands) ht place))
 
   -- the sides run apart along p, from any states
   abbrev Apart : List ℕ → Type 0

@@ -1,4 +1,3 @@
--- The lemmas: what a loop over a sequence needs, and the theorems on runs.
-pub mod Passing
+-- The lemmas: the theorems on runs.
 pub mod Unlocked
 pub mod Apart

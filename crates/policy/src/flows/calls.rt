@@ -21,7 +21,7 @@ impl Flows {
             return Err(Refusal::BoardLimits);
         }
         let mut rows = [Members::none(); MOST_CONSOLES];
-        // By index: of `array::from_fn` and `iter_mut().enumerate()` no clause tells each element.
+        // By index: `array::from_fn` leaves open what its closure has captured, `iter_mut().enumerate()` each row.
         for u in 0..consoles {
             rows[u] = Members::none().with(u);
         }

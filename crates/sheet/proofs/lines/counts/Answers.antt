@@ -1,3 +1,4 @@
+-- The counts and the name, word after word.
 use Rattle.std.proofs.Common.{refl}
 use Rattle.sheet.specs.Marks.{blank}
 use Rattle.sheet.proofs.Cursor.{word_then, writes_as}

@@ -24,10 +24,10 @@ returns-in_err-heading g c =
     let owners = c.args.owners.now in
     let displays = c.args.displays.now in
     let f = c.in_err-heading.field-0.0 in
-    let room = suffices (length steps) (length owners) (length displays) c.if-steps-lt-STEPS.false c.if-owners-lt-OWNERS.false c.if-displays-lt-DISPLAYS.false in
+    let room = suffices (length steps) (length owners) (length displays) (omega arith) (omega arith) (omega arith) in
     let all = kept g.D.DisplayKind.cell (read_answer kind reads (length steps) (length owners) (length displays) s) c.from_residual.result (refusal_of f) steps owners displays
     (left_as c.from_residual.result (refusal_of f) c.from_residual.ensures.1)
-    (answer_err kind reads s (length steps) (length owners) (length displays) c.if-sheet-gt-MOST_SHEET_BYTES.false room f (first_fault kind reads s f c.in_err-heading.ensures.read)) in
+    (answer_err kind reads s (length steps) (length owners) (length displays) (omega arith) room f (first_fault kind reads s f c.in_err-heading.ensures.read)) in
     record { found = all.0; steps = all.1; owners = all.2; displays = all.3 }
 
 pub returns-in_err-line : goal.returns-in_err-line
@@ -42,12 +42,12 @@ returns-in_err-line g c =
     let i = c.first_block.new.cursor.at in
     let f = c.in_err-line.field-0.0 in
     let n = 3 + length (plan_of (counted h)) in
-    let room = suffices (length steps) (length owners) (length displays) c.if-steps-lt-STEPS.false c.if-owners-lt-OWNERS.false c.if-displays-lt-DISPLAYS.false in
+    let room = suffices (length steps) (length owners) (length displays) (omega arith) (omega arith) (omega arith) in
     let stopped = rows_stopped n (rows_at reads (counted h) s (plan_of (counted h)) 3 i) f
     (c.in_err-line.ensures.read ∙ ap (λ b. on {B = ℕ × ℕ} (rows_at reads (counted h) b.now (plan_of (counted h)) 3 i) (λ z. Ok (n, z.1))) c.in_ok-heading.ensures.sheet) in
     let all = kept g.D.DisplayKind.cell (read_answer kind reads (length steps) (length owners) (length displays) s) c.from_residual-in_err-line.result (refusal_of f) steps owners displays
     (left_as c.from_residual-in_err-line.result (refusal_of f) c.from_residual-in_err-line.ensures.1)
-    (answer_err kind reads s (length steps) (length owners) (length displays) c.if-sheet-gt-MOST_SHEET_BYTES.false room f (rows_fault kind reads s (counted h) i c.in_ok-heading.ensures.read f stopped)) in
+    (answer_err kind reads s (length steps) (length owners) (length displays) (omega arith) room f (rows_fault kind reads s (counted h) i c.in_ok-heading.ensures.read f stopped)) in
     record { found = all.0; steps = all.1; owners = all.2; displays = all.3 }
 
 pub all_flows-requires : goal.all_flows-requires
@@ -71,14 +71,14 @@ returns-in_err-board g c =
     let j = c.pass_rows.new.cursor.at in
     let n = 3 + length (plan_of (counted h)) in
     let e = c.in_err-board.field-0.0 in
-    let room = suffices (length steps) (length owners) (length displays) c.if-steps-lt-STEPS.false c.if-owners-lt-OWNERS.false c.if-displays-lt-DISPLAYS.false in
+    let room = suffices (length steps) (length owners) (length displays) (omega arith) (omega arith) (omega arith) in
     let passed = rows_passed n (rows_at reads (counted h) s (plan_of (counted h)) 3 i) c.in_ok-line.line j
     (c.in_ok-line.ensures.read ∙ ap (λ b. on {B = ℕ × ℕ} (rows_at reads (counted h) b.now (plan_of (counted h)) 3 i) (λ z. Ok (n, z.1))) c.in_ok-heading.ensures.sheet) in
     let refused = refusal_from h.counts e (flows_at k s (k * k) 0 c.in_ok-line.line j)
     (subst (λ b. BoardAs h.counts (Err e) (flows_at k b.now (k * k) 0 c.in_ok-line.line j)) (c.in_ok-line.ensures.sheet ∙ c.in_ok-heading.ensures.sheet) c.in_err-board.ensures) in
     let all = kept g.D.DisplayKind.cell (read_answer kind reads (length steps) (length owners) (length displays) s) c.from_residual-in_err-board.result (refusal_of refused.0) steps owners displays
     (left_as c.from_residual-in_err-board.result e c.from_residual-in_err-board.ensures.1 ∙ ap Err refused.2)
-    (answer_err kind reads s (length steps) (length owners) (length displays) c.if-sheet-gt-MOST_SHEET_BYTES.false room refused.0 (flows_fault kind reads s (counted h) i c.in_ok-heading.ensures.read passed.0 j passed.1 refused.0 (ap (λ m. flows_at k s (k * k) 0 m j) (sym passed.2) ∙ refused.1))) in
+    (answer_err kind reads s (length steps) (length owners) (length displays) (omega arith) room refused.0 (flows_fault kind reads s (counted h) i c.in_ok-heading.ensures.read passed.0 j passed.1 refused.0 (ap (λ m. flows_at k s (k * k) 0 m j) (sym passed.2) ∙ refused.1))) in
     record { found = all.0; steps = all.1; owners = all.2; displays = all.3 }
 
 pub returns-in_err-fill : goal.returns-in_err-fill
@@ -108,13 +108,13 @@ returns g c =
     let b = c.in_ok-board.board in
     let V = rows_at reads (counted h) before.sheet.now (plan_of (counted h)) 3 i in
     let X = read_answer kind reads (length steps) (length owners) (length displays) s in
-    let room = suffices (length steps) (length owners) (length displays) c.if-steps-lt-STEPS.false c.if-owners-lt-OWNERS.false c.if-displays-lt-DISPLAYS.false in
+    let room = suffices (length steps) (length owners) (length displays) (omega arith) (omega arith) (omega arith) in
     let same = ap (λ b. rows_at reads (counted h) b.now (plan_of (counted h)) 3 i) c.in_ok-heading.ensures.sheet in
     let passed = rows_passed n V c.in_ok-line.line j c.in_ok-line.ensures.read in
     let listed = board_from h.counts b (flows_at k s (k * k) 0 c.in_ok-line.line j)
     (subst (λ t. BoardAs h.counts (Ok b) (flows_at k t.now (k * k) 0 c.in_ok-line.line j)) (c.in_ok-line.ensures.sheet ∙ c.in_ok-heading.ensures.sheet) c.in_ok-board.ensures) in
     let x : Sheet g.row.D.Denot = record { counted = counted h; entries = passed.0; flows = listed.0 } in
-    let answer = answer_ok kind reads s (length steps) (length owners) (length displays) c.if-sheet-gt-MOST_SHEET_BYTES.false room x (all_read kind reads s (counted h) i c.in_ok-heading.ensures.read passed.0 j (sym same ∙ passed.1) listed.0 (ap (λ m. flows_at k s (k * k) 0 m j) (sym passed.2) ∙ listed.1)) in
+    let answer = answer_ok kind reads s (length steps) (length owners) (length displays) (omega arith) room x (all_read kind reads s (counted h) i c.in_ok-heading.ensures.read passed.0 j (sym same ∙ passed.1) listed.0 (ap (λ m. flows_at k s (k * k) 0 m j) (sym passed.2) ∙ listed.1)) in
     record {
       found = found_ok X (record { counts = h.counts; start = h.start; board = b }) x answer (record {
         states = refl;
