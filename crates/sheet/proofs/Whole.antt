@@ -7,10 +7,11 @@ use Rattle.policy.specs.declared.refusal.Refusal.{Refusal}
 use Rattle.control.specs.Tables.{store_suffices}
 use Rattle.control.specs.declared.table.Counts.{Counts}
 use Rattle.sheet.specs.Calls.{Agrees, FoundAs, overwritten, read_answer, refusal_of, store_after}
+use Rattle.sheet.specs.Exact.{most_bytes}
 use Rattle.sheet.specs.Faults.{on, on_line}
 use Rattle.sheet.specs.Plan.{counts_title}
 use Rattle.sheet.specs.Reading.{Counted, Entries, Sheet, Value, nothing, names_at, counts_at, rows_at, flows_at, plan_of, sheet_read}
-use Rattle.sheet.specs.Due.{Within, names_in}
+use Rattle.sheet.specs.Due.{Within, highest_line, names_in}
 use Rattle.sheet.specs.Entries.{counted, first_at}
 use Rattle.sheet.specs.Boards.{Lists, BoardAs}
 use Rattle.sheet.specs.Stores.{FilledBy}
@@ -21,7 +22,7 @@ use Rattle.sheet.specs.declared.heading.Heading.{Heading}
 use Rattle.sheet.proofs.Dues.{all_due, few_rows}
 
 -- no line of the rows is past the last of a largest sheet
-pub line_bound : (h : Heading) → Within h.counts → 3 + length (plan_of (counted h)) ≤ 3631
+pub line_bound : (h : Heading) → Within h.counts → 3 + length (plan_of (counted h)) ≤ highest_line
 line_bound h w = omega (arith, few_rows h.counts w, ap length (all_due h.counts))
 
 module _ {D : Type 0} (kind : List ℕ) (reads : List ℕ → Result D Cause) (s : List ℕ) where
@@ -57,12 +58,12 @@ module _ {D : Type 0} (kind : List ℕ) (reads : List ℕ → Result D Cause) (s
       all_read ps p = to_flows ∙ ap (λ R. on R (λ qs. Ok (record { counted = c; entries = e; flows = qs }))) p
 
   -- in stores that suffice
-  module _ (a b d : ℕ) (short : length s ≤ 40960) (room : store_suffices a b d ≡ true) where
+  module _ (a b d : ℕ) (short : length s ≤ most_bytes) (room : store_suffices a b d ≡ true) where
     pub answer_ok : (x : Sheet D) → sheet_read kind reads s ≡ Ok x → read_answer kind reads a b d s ≡ Ok x
-    answer_ok x e = let p = le-ltb 40960 (length s) short in cc
+    answer_ok x e = let p = le-ltb most_bytes (length s) short in cc
 
     pub answer_err : (f : SheetFault) → sheet_read kind reads s ≡ Err f → read_answer kind reads a b d s ≡ Err (refusal_of f)
-    answer_err f e = let p = le-ltb 40960 (length s) short in cc
+    answer_err f e = let p = le-ltb most_bytes (length s) short in cc
 
 -- what the calls before say of the rows and the flows
 module _ {D : Type 0} (n : ℕ) where

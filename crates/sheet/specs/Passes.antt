@@ -4,7 +4,7 @@ use Rattle.mark.specs.declared.cause.Cause.{Cause}
 use Rattle.control.specs.declared.table.Counts.{Counts}
 use Rattle.sheet.specs.Faults.{on}
 use Rattle.sheet.specs.Reading.{Entries, with_value, rows_at}
-use Rattle.sheet.specs.Due.{rows_left, next_due, StandsLeft}
+use Rattle.sheet.specs.Due.{highest_line, rows_left, next_due, StandsLeft}
 use Rattle.sheet.specs.Entries.{counted, value_of, Kinded}
 use Rattle.sheet.specs.declared.due.Block.TheVariants as block
 use Rattle.sheet.specs.declared.due.Due.{Due}
@@ -22,7 +22,7 @@ line_behind c p = p.line + length (rows_left c p.due)
 -- the row that is due stands in the plan, and no line passes the last of a largest sheet
 pub record Ready (c : Counts) (p : Progress) : Type 0 where
   pub stands : StandsLeft c p.due
-  pub lines : line_behind c p ≤ 3631
+  pub lines : line_behind c p ≤ highest_line
 
 -- no row is left, and none was read
 pub record Ended (p q : Progress) : Type 0 where

@@ -2,6 +2,7 @@
 ghost use Rattle.std.specs.Prelude.{◌≡◌, ◌+◌, ◌*◌, ◌<◌, ◌≤◌, IfOk, IfSome};
 ghost use Rattle.sheet.specs.Faults.{behind};
 ghost use Rattle.sheet.specs.Reading.{flow_at, flows_at};
+ghost use Rattle.sheet.specs.Due.{highest_line};
 ghost use Rattle.sheet.specs.Boards.{flow_due, flow_next, BoardAs};
 
 use crate::fault::{MarkFault, SheetFault};
@@ -62,7 +63,7 @@ pub(crate) fn all_flows(
     line: usize,
     heading: &Heading,
 ) -> Result<Board, Refusal>
-    requires { line ≤ 3631 }
+    requires { line ≤ highest_line }
     ensures { BoardAs heading.now.counts result (flows_at heading.now.counts.consoles cursor.old.sheet.now (heading.now.counts.consoles * heading.now.counts.consoles) 0 line cursor.old.at) }
 {
     let consoles = heading.counts.consoles;

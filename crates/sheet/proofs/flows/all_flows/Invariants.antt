@@ -1,3 +1,4 @@
+-- The flows are read one after the other, and each is one pair more.
 use Rattle.std.proofs.Common.{◌≡◌, ◌-◌, ◌*◌}
 use Rattle.sheet.proofs.Listing.{Listing}
 use Rattle.sheet.proofs.flows.all_flows.Given as goal

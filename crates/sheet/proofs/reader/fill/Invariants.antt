@@ -1,3 +1,4 @@
+-- Every row that is read leaves fewer, and its entry in a store.
 use Rattle.std.proofs.Common.{length}
 use Rattle.sheet.specs.Reading.{plan_of, rows_at}
 use Rattle.sheet.specs.Due.{rows_left}

@@ -1,3 +1,4 @@
+-- Every row that is read leaves fewer.
 use Rattle.std.proofs.Common.{◌≡◌, ℕ, ◌+◌, length, Ok}
 use Rattle.sheet.specs.Faults.{on}
 use Rattle.sheet.specs.Reading.{plan_of, rows_at}

@@ -5,6 +5,7 @@ use Rattle.control.specs.Tables.{store_suffices}
 use Rattle.sheet.specs.Calls.{read_answer, refusal_of}
 use Rattle.sheet.specs.Faults.{on}
 use Rattle.sheet.specs.Reading.{Sheet, plan_of, rows_at, flows_at}
+use Rattle.sheet.specs.Due.{highest_line}
 use Rattle.sheet.specs.Entries.{counted}
 use Rattle.sheet.specs.Boards.{BoardAs}
 use Rattle.sheet.proofs.Going.{left_as}
@@ -55,7 +56,7 @@ all_flows-requires g c =
     let h = c.in_ok-heading.heading in
     let before = c.first_block.new.cursor in
     let passed = rows_passed (3 + length (plan_of (counted h))) (rows_at g.D.DisplayKind.reads (counted h) before.sheet.now (plan_of (counted h)) 3 before.at) c.in_ok-line.line c.pass_rows.new.cursor.at c.in_ok-line.ensures.read in
-    subst (λ n. n ≤ 3631) (sym passed.2) (line_bound h h.within)
+    subst (λ n. n ≤ highest_line) (sym passed.2) (line_bound h h.within)
 
 pub returns-in_err-board : goal.returns-in_err-board
 returns-in_err-board g c =

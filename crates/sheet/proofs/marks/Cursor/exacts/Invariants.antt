@@ -1,3 +1,4 @@
+-- The numbers are read one after the other.
 use Rattle.std.proofs.Common.{◌≡◌, drop}
 use Rattle.sheet.specs.Reading.{exacts_at}
 use Rattle.sheet.proofs.marks.Cursor.exacts.Given as goal

@@ -1,3 +1,4 @@
+-- The names are read one after the other.
 use Rattle.std.proofs.Common.{◌≡◌, map, drop}
 use Rattle.sheet.specs.Reading.{names_at}
 use Rattle.sheet.proofs.marks.Cursor.names.Given as goal
