@@ -18,8 +18,9 @@ use Rattle.sheet.specs.declared.due.Block.TheVariants as block
 use Rattle.sheet.specs.declared.due.Due.{Due}
 use Rattle.sheet.specs.declared.due.Due.TheVariants as due
 use Rattle.sheet.specs.declared.fault.SheetFault.{SheetFault}
+use Rattle.sheet.specs.declared.marks.Cursor.{Cursor}
 use Rattle.sheet.specs.declared.progress.Progress.{Progress}
-use Rattle.sheet.specs.declared.rows.Heading.{Heading}
+use Rattle.sheet.specs.declared.heading.Heading.{Heading}
 use Rattle.sheet.specs.declared.rows.Entry.{Entry}
 use Rattle.sheet.specs.declared.rows.Entry.TheVariants.{Nothing, Owner, Step, Shown}
 use Rattle.sheet.proofs.Passed.{pass_end}
@@ -146,7 +147,7 @@ module _ {D : Type 0} where
 
 -- How far the stores are filled: they held `steps₀`, `owners₀` and `displays₀`, W is what all
 -- rows say, and `so_far` is what was read of it.
-module _ {D C : Type 0} (reads : List ℕ → Result D Cause) (h : Heading) (s : List ℕ) (cell : D → C) (W : Result (Entries D × ℕ) SheetFault) (steps₀ owners₀ : List ℕ) (displays₀ : List C) where
+module _ {D C : Type 0} (reads : List ℕ → Result D Cause) (h : Heading) (cell : D → C) (W : Result (Entries D × ℕ) SheetFault) (steps₀ owners₀ : List ℕ) (displays₀ : List C) where
   pub record Filling (p : Progress) (steps owners : List ℕ) (displays : List C) : Type 0 where
     pub so_far : Entries D
     pub ready : Ready h.counts p
@@ -156,10 +157,10 @@ module _ {D C : Type 0} (reads : List ℕ → Result D Cause) (h : Heading) (s :
     pub steps_hold : steps ≡ overwritten so_far.steps steps₀
     pub owners_hold : owners ≡ overwritten so_far.owners owners₀
     pub displays_hold : displays ≡ overwritten (map cell so_far.displays) displays₀
-    pub rest : W ≡ on (left_at reads h s p) (λ z. Ok (joined so_far z.0, z.1))
+    pub rest : W ≡ on (left_at reads h p) (λ z. Ok (joined so_far z.0, z.1))
 
-  pub filling_start : (i : ℕ) → Ready h.counts (started i) → W ≡ left_at reads h s (started i) → Filling (started i) steps₀ owners₀ displays₀
-  filling_start i ready whole = record {
+  pub filling_start : (a : Cursor) → Ready h.counts (started a) → W ≡ left_at reads h (started a) → Filling (started a) steps₀ owners₀ displays₀
+  filling_start a ready whole = record {
     so_far = no_entries;
     ready = ready;
     steps_many = refl;
@@ -168,7 +169,7 @@ module _ {D C : Type 0} (reads : List ℕ → Result D Cause) (h : Heading) (s :
     steps_hold = refl;
     owners_hold = refl;
     displays_hold = refl;
-    rest = whole ∙ by (left_at reads h s (started i));
+    rest = whole ∙ by (left_at reads h (started a));
   }
     where
       by : (R : Result (Entries D × ℕ) SheetFault) → R ≡ on {B = Entries D × ℕ} R (λ z. Ok (joined no_entries z.0, z.1))
@@ -176,7 +177,7 @@ module _ {D C : Type 0} (reads : List ℕ → Result D Cause) (h : Heading) (s :
       by (Err f) = refl
 
   module _ (p : Progress) (steps owners : List ℕ) (displays : List C) (l : Filling p steps owners displays) where
-    pub filling_more : (q : Progress) (d : Due) (v : Entry D) (steps' owners' : List ℕ) (displays' : List C) → Stepped reads h s p q d v → Holds (length steps₀) (length owners₀) (length displays₀) d → Stands h.counts d → steps' ≡ steps_with d v steps → owners' ≡ owners_with d v owners → displays' ≡ displays_with cell d v displays → Filling q steps' owners' displays'
+    pub filling_more : (q : Progress) (d : Due) (v : Entry D) (steps' owners' : List ℕ) (displays' : List C) → Stepped reads h p q d v → Holds (length steps₀) (length owners₀) (length displays₀) d → Stands h.counts d → steps' ≡ steps_with d v steps → owners' ≡ owners_with d v owners → displays' ≡ displays_with cell d v displays → Filling q steps' owners' displays'
     filling_more q d v steps' owners' displays' t room stands es eo ed =
         let k = paired d v t.kind in
         let ns = l.steps_many ∙ ap (steps_done h.counts) t.was in
@@ -191,17 +192,17 @@ module _ {D C : Type 0} (reads : List ℕ → Result D Cause) (h : Heading) (s :
           steps_hold = es ∙ ap (steps_with d v) l.steps_hold ∙ steps_kept h.counts (length owners₀) (length displays₀) l.so_far.steps steps₀ d v room ns k;
           owners_hold = eo ∙ ap (owners_with d v) l.owners_hold ∙ owners_kept h.counts (length steps₀) (length displays₀) l.so_far.owners owners₀ d v room no k;
           displays_hold = ed ∙ ap (displays_with cell d v) l.displays_hold ∙ displays_kept h.counts (length steps₀) (length owners₀) cell l.so_far.displays displays₀ d v room nd k;
-          rest = l.rest ∙ ap (λ R. on {A = Entries D × ℕ} {B = Entries D × ℕ} R (λ z. Ok (joined l.so_far z.0, z.1))) t.more ∙ moved l.so_far (value_of v) (left_at reads h s q);
+          rest = l.rest ∙ ap (λ R. on {A = Entries D × ℕ} {B = Entries D × ℕ} R (λ z. Ok (joined l.so_far z.0, z.1))) t.more ∙ moved l.so_far (value_of v) (left_at reads h q);
         }
 
-    pub filling_fault : (f : SheetFault) → Faulted reads h s p f → W ≡ Err f
+    pub filling_fault : (f : SheetFault) → Faulted reads h p f → W ≡ Err f
     filling_fault f e = l.rest ∙ ap (λ R. on {A = Entries D × ℕ} {B = Entries D × ℕ} R (λ z. Ok (joined l.so_far z.0, z.1))) e
 
-    pub filling_end : p.due ≡ None → W ≡ Ok (l.so_far, p.at)
+    pub filling_end : p.due ≡ None → W ≡ Ok (l.so_far, p.cursor.at)
     filling_end e =
         l.rest
-        ∙ ap (λ R. on {A = Entries D × ℕ} {B = Entries D × ℕ} R (λ z. Ok (joined l.so_far z.0, z.1))) (pass_end reads h s p e)
-        ∙ ap (λ (d : Entries D). Ok (d, p.at)) (entries_same _ _ (append-nil l.so_far.owners) (append-nil l.so_far.steps) (append-nil l.so_far.displays))
+        ∙ ap (λ R. on {A = Entries D × ℕ} {B = Entries D × ℕ} R (λ z. Ok (joined l.so_far z.0, z.1))) (pass_end reads h p e)
+        ∙ ap (λ (d : Entries D). Ok (d, p.cursor.at)) (entries_same _ _ (append-nil l.so_far.owners) (append-nil l.so_far.steps) (append-nil l.so_far.displays))
 
 -- stores that suffice have a place for every row
 module _ (c : Counts) (w : Within c) (a b d a' b' d' : ℕ) (room : store_suffices a b d ≡ true) (p : a' ≡ a) (q : b' ≡ b) (r : d' ≡ d) where

@@ -10,14 +10,14 @@ module _ {A : Type 0} (reads : List ℕ → Result A Cause) (b : ℕ) (s run : L
   cut_item : mark_at Ok s i ≡ Ok (run, j) → item_from (placed i (reads run)) b s j ≡ item_at reads b s i
   cut_item cut = grind arith
 
-  pub item_read : mark_at Ok s i ≡ Ok (run, j) → (r : Result A MarkFault) → r ≡ placed i (reads run) → item_from r b s j ≡ item_at reads b s i
-  item_read cut r e = ap (λ t. item_from t b s j) e ∙ cut_item cut
+  pub item_read : mark_at Ok s i ≡ Ok (run, j) → (r : Result A Cause) → r ≡ reads run → item_from (placed i r) b s j ≡ item_at reads b s i
+  item_read cut r e = ap (λ t. item_from (placed i t) b s j) e ∙ cut_item cut
 
 -- what holds of the mark holds of it with the byte behind it
-pub item_keeps : {A : Type 0} (P : A → Type 0) (r : Result A MarkFault) (b : ℕ) (s : List ℕ) (j : ℕ) (t : Result (A × ℕ) MarkFault) → t ≡ item_from r b s j → IfOk r P → IfOk {T = A × ℕ} t (λ y. P y.0)
-item_keeps {A} P r b s j t e h = subst (λ (u : Result (A × ℕ) MarkFault). IfOk {T = A × ℕ} u (λ y. P y.0)) (sym e) (kept r (byte_at b s j) h)
+pub item_keeps : {A : Type 0} (P : A → Type 0) (r : Result A Cause) (b : ℕ) (s : List ℕ) (i j : ℕ) (t : Result (A × ℕ) MarkFault) → t ≡ item_from (placed i r) b s j → IfOk r P → IfOk {T = A × ℕ} t (λ y. P y.0)
+item_keeps {A} P r b s i j t e h = subst (λ (u : Result (A × ℕ) MarkFault). IfOk {T = A × ℕ} u (λ y. P y.0)) (sym e) (kept r (byte_at b s j) h)
   where
-    kept : (r : Result A MarkFault) (q : Result ℕ MarkFault) → IfOk r P → IfOk {T = A × ℕ} (on r (λ x. on q (λ k. Ok (x, k)))) (λ y. P y.0)
+    kept : (r : Result A Cause) (q : Result ℕ MarkFault) → IfOk r P → IfOk {T = A × ℕ} (on (placed i r) (λ x. on q (λ k. Ok (x, k)))) (λ y. P y.0)
     kept (Ok x) (Ok k) h = h
     kept (Ok x) (Err f) h = tt
     kept (Err f) q h = tt

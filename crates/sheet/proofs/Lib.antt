@@ -13,7 +13,6 @@ pub mod Going
 pub mod Items
 pub mod Leads
 pub mod Listing
-pub mod Naming
 pub mod Outcome
 pub mod Passed
 pub mod SheetLengths

@@ -1,9 +1,9 @@
 -- The flows are read one after the other, each in its turn, and are those of the board.
-use Rattle.std.proofs.Common.{◌≡◌, ℕ, zero, suc, ◌+◌, ◌*◌, ◌/◌, ◌%◌, ◌<◌, ◌≤◌, Bool, true, false, cond, ◌&&◌, ◌||◌, eqb, ltb, leb, List, [], ◌∷◌, ◌++◌, length, Ok, Err, Result, sym, refl, ap, ◌∙◌, arith}
+use Rattle.std.proofs.Common.{◌≡◌, ℕ, zero, suc, ◌+◌, ◌*◌, ◌/◌, ◌%◌, ◌<◌, ◌≤◌, Bool, true, false, cond, ◌&&◌, ◌||◌, eqb, ltb, leb, List, [], ◌∷◌, ◌++◌, length, Some, None, Ok, Err, Option, Result, sym, refl, ap, ap₂, ◌∙◌, arith}
 use Rattle.std.proofs.Math.Bool.{or_assoc, or-false, and-or_distrib_left}
 use Rattle.std.proofs.lemmas.Nat.{div-add-mod', div-mul-add, mod-mul-add, mod_below, div_below}
 use Rattle.std.proofs.lemmas.List.{append_assoc, append-nil}
-use Rattle.std.proofs.lemmas.Bool.{lt-ltb, lt-leb, le-leb, and_from, cond-true, cond-false}
+use Rattle.std.proofs.lemmas.Bool.{leb-true, leb-false, lt-ltb, lt-leb, le-leb, and_from, cond-true, cond-false}
 use Rattle.std.proofs.lemmas.Bool.Decides.{same_from_decides, Decides-and, Decides-eqb, Decides-ltb, Decides-like}
 use Rattle.mark.specs.declared.cause.Cause.TheVariants.{NotDue}
 use Rattle.policy.specs.Board.{flows_of, lockouts_of}
@@ -17,7 +17,7 @@ use Rattle.sheet.specs.Calls.{refusal_of}
 use Rattle.sheet.specs.Exact.{among}
 use Rattle.sheet.specs.Faults.{mark_fault, on, on_line}
 use Rattle.sheet.specs.Reading.{flow_at, may_come, flows_at}
-use Rattle.sheet.specs.Boards.{flow_due, Lists, BoardAs}
+use Rattle.sheet.specs.Boards.{flow_due, flow_next, Lists, BoardAs}
 use Rattle.sheet.specs.declared.fault.MarkFault.{MarkFault}
 use Rattle.sheet.specs.declared.fault.SheetFault.{SheetFault}
 
@@ -108,6 +108,44 @@ module _ (k : ℕ) (s : List ℕ) (low line i : ℕ) where
   flows_end : (room : ℕ) → length s ≤ i → flows_at k s room low line i ≡ Ok []
   flows_end zero h = cond-true (leb (length s) i) _ _ (le-leb (length s) i h)
   flows_end (suc room) h = cond-true (leb (length s) i) _ _ (le-leb (length s) i h)
+
+-- what the next flow says: that the sheet goes on, and the flow; the end; the fault
+next_some : (b : Bool) (n : ℕ) (R : Result (ℕ × ℕ) SheetFault) (p j : ℕ) → Ok (Some p, j) ≡ cond b (Ok (None, n)) (on {B = Option ℕ × ℕ} R (λ y. Ok (Some y.0, y.1))) → (b ≡ false) × (Ok (p, j) ≡ R)
+next_some true n R p j e =
+    let q : ◌≡◌ {A = Option ℕ × ℕ} (Some p, j) (None, n) = cc in
+    let pair : ◌≡◌ {A = Option ℕ} (Some p) None = ap (λ (t : Option ℕ × ℕ). t.0) q in
+    let z : ◌≡◌ {A = ℕ} 0 1 = cc in
+    absurd (omega arith)
+next_some false n (Ok y) p j e =
+    let q : ◌≡◌ {A = Option ℕ × ℕ} (Some p, j) (Some y.0, y.1) = cc in
+    let pair : ◌≡◌ {A = Option ℕ} (Some p) (Some y.0) = ap (λ (t : Option ℕ × ℕ). t.0) q in
+    let same : p ≡ y.0 = cc in
+    (refl, ap₂ (λ a b. Ok (a, b)) same (ap (λ (t : Option ℕ × ℕ). t.1) q))
+next_some false n (Err f) p j e = let q : ◌≡◌ {A = ℕ} 0 1 = cc in absurd (omega arith)
+
+next_none : (b : Bool) (n : ℕ) (R : Result (ℕ × ℕ) SheetFault) (j : ℕ) → Ok (None, j) ≡ cond b (Ok (None, n)) (on {B = Option ℕ × ℕ} R (λ y. Ok (Some y.0, y.1))) → b ≡ true
+next_none true n R j e = refl
+next_none false n (Ok y) j e =
+    let q : ◌≡◌ {A = Option ℕ × ℕ} (None, j) (Some y.0, y.1) = cc in
+    let pair : ◌≡◌ {A = Option ℕ} None (Some y.0) = ap (λ (t : Option ℕ × ℕ). t.0) q in
+    let z : ◌≡◌ {A = ℕ} 0 1 = cc in
+    absurd (omega arith)
+next_none false n (Err f) j e = let q : ◌≡◌ {A = ℕ} 0 1 = cc in absurd (omega arith)
+
+next_err : (b : Bool) (n : ℕ) (R : Result (ℕ × ℕ) SheetFault) (f : SheetFault) → Err f ≡ cond b (Ok (None, n)) (on {B = Option ℕ × ℕ} R (λ y. Ok (Some y.0, y.1))) → (b ≡ false) × (Err f ≡ R)
+next_err true n R f e = let q : ◌≡◌ {A = ℕ} 0 1 = cc in absurd (omega arith)
+next_err false n (Ok y) f e = let q : ◌≡◌ {A = ℕ} 0 1 = cc in absurd (omega arith)
+next_err false n (Err g) f e = (refl, cc)
+
+module _ (k low line : ℕ) (s : List ℕ) (i : ℕ) where
+  pub came : (p j : ℕ) → Ok (Some p, j) ≡ flow_next k low line s i → (i < length s) × (Ok (p, j) ≡ on_line line 5 (flow_due k low s i))
+  came p j e = let t = next_some (leb (length s) i) i (on_line line 5 (flow_due k low s i)) p j e in (leb-false (length s) i t.0, t.1)
+
+  pub none_came : (j : ℕ) → Ok (None, j) ≡ flow_next k low line s i → length s ≤ i
+  none_came j e = leb-true (length s) i (next_none (leb (length s) i) i (on_line line 5 (flow_due k low s i)) j e)
+
+  pub refused : (f : SheetFault) → Err f ≡ flow_next k low line s i → (i < length s) × (Err f ≡ on_line line 5 (flow_due k low s i))
+  refused f e = let t = next_err (leb (length s) i) i (on_line line 5 (flow_due k low s i)) f e in (leb-false (length s) i t.0, t.1)
 
 in_front : (ps : List ℕ) (p : ℕ) (R : Result (List ℕ) SheetFault) → on (on R (λ qs. Ok (p ∷ qs))) (λ qs. Ok (ps ++ qs)) ≡ on {B = List ℕ} R (λ qs. Ok ((ps ++ (p ∷ [])) ++ qs))
 in_front ps p (Ok qs) = ap Ok (sym (append_assoc ps (p ∷ []) qs))

@@ -8,8 +8,9 @@ use Rattle.sheet.specs.Entries.{counted, value_of}
 use Rattle.sheet.specs.Passes.{Ready, Stepped, Faulted, left_at, reached, line_behind, started}
 use Rattle.sheet.specs.declared.due.Due.{Due}
 use Rattle.sheet.specs.declared.fault.SheetFault.{SheetFault}
+use Rattle.sheet.specs.declared.marks.Cursor.{Cursor}
 use Rattle.sheet.specs.declared.progress.Progress.{Progress}
-use Rattle.sheet.specs.declared.rows.Heading.{Heading}
+use Rattle.sheet.specs.declared.heading.Heading.{Heading}
 use Rattle.sheet.specs.declared.rows.Entry.{Entry}
 use Rattle.sheet.proofs.Dues.{all_due, few_rows}
 
@@ -23,32 +24,32 @@ beside : {D : Type 0} (n : ℕ) (R : Result (Entries D × ℕ) SheetFault) → o
 beside n (Ok z) = refl
 beside n (Err g) = refl
 
-module _ {D : Type 0} (reads : List ℕ → Result D Cause) (h : Heading) (s : List ℕ) where
-  pub pass_ready : (w : Within h.counts) (i : ℕ) → Ready h.counts (started i)
-  pass_ready w i = record { stands = tt; lines = omega (arith, few_rows h.counts w) }
+module _ {D : Type 0} (reads : List ℕ → Result D Cause) (h : Heading) where
+  pub pass_ready : (w : Within h.counts) (a : Cursor) → Ready h.counts (started a)
+  pass_ready w a = record { stands = tt; lines = omega (arith, few_rows h.counts w) }
 
-  pub pass_lines : (i : ℕ) → line_behind h.counts (started i) ≡ 3 + length (plan_of (counted h))
-  pass_lines i = ap (λ rs. 3 + length rs) (sym (all_due h.counts))
+  pub pass_lines : (a : Cursor) → line_behind h.counts (started a) ≡ 3 + length (plan_of (counted h))
+  pass_lines a = ap (λ rs. 3 + length rs) (sym (all_due h.counts))
 
-  pub pass_whole : (i : ℕ) → rows_at reads (counted h) s (plan_of (counted h)) 3 i ≡ left_at reads h s (started i)
-  pass_whole i = ap (λ rs. rows_at reads (counted h) s rs 3 i) (all_due h.counts)
+  pub pass_whole : (a : Cursor) → rows_at reads (counted h) a.sheet.now (plan_of (counted h)) 3 a.at ≡ left_at reads h (started a)
+  pass_whole a = ap (λ rs. rows_at reads (counted h) a.sheet.now rs 3 a.at) (all_due h.counts)
 
-  pub pass_less : (p q : Progress) (d : Due) (v : Entry D) → Stepped reads h s p q d v → length (rows_left h.counts q.due) < length (rows_left h.counts p.due)
+  pub pass_less : (p q : Progress) (d : Due) (v : Entry D) → Stepped reads h p q d v → length (rows_left h.counts q.due) < length (rows_left h.counts p.due)
   pass_less p q d v t = omega (arith, t.lines, t.behind)
 
-  pub pass_more : (p q : Progress) (d : Due) (v : Entry D) → Stepped reads h s p q d v → reached reads h s p ≡ reached reads h s q
-  pass_more p q d v t = ap (λ R. on {B = ℕ} R (λ z. Ok z.1)) t.more ∙ same_place (left_at reads h s q) (with_value (value_of v))
+  pub pass_more : (p q : Progress) (d : Due) (v : Entry D) → Stepped reads h p q d v → reached reads h p ≡ reached reads h q
+  pass_more p q d v t = ap (λ R. on {B = ℕ} R (λ z. Ok z.1)) t.more ∙ same_place (left_at reads h q) (with_value (value_of v))
 
-  pub pass_end : (p : Progress) → p.due ≡ None → left_at reads h s p ≡ Ok (no_entries, p.at)
-  pass_end p e = ap (λ d. rows_at reads (counted h) s (rows_left h.counts d) p.line p.at) e
+  pub pass_end : (p : Progress) → p.due ≡ None → left_at reads h p ≡ Ok (no_entries, p.cursor.at)
+  pass_end p e = ap (λ d. rows_at reads (counted h) p.cursor.sheet.now (rows_left h.counts d) p.line p.cursor.at) e
 
   pub pass_last : (p : Progress) → p.due ≡ None → line_behind h.counts p ≡ p.line
   pass_last p e = ap (λ d. p.line + length (rows_left h.counts d)) e ∙ omega arith
 
   -- W is what all rows say
-  module _ (W : Result (Entries D × ℕ) SheetFault) (n : ℕ) (p : Progress) (so_far : on {B = ℕ} W (λ z. Ok z.1) ≡ reached reads h s p) where
-    pub pass_done : p.due ≡ None → line_behind h.counts p ≡ n → Ok (p.line, p.at) ≡ on {B = ℕ × ℕ} W (λ z. Ok (n, z.1))
-    pass_done e lines = ap (λ m. Ok (m, p.at)) (sym (pass_last p e) ∙ lines) ∙ sym (beside n W ∙ ap (λ R. on R (λ j. Ok (n, j))) (so_far ∙ ap (λ R. on {B = ℕ} R (λ z. Ok z.1)) (pass_end p e)))
+  module _ (W : Result (Entries D × ℕ) SheetFault) (n : ℕ) (p : Progress) (so_far : on {B = ℕ} W (λ z. Ok z.1) ≡ reached reads h p) where
+    pub pass_done : p.due ≡ None → line_behind h.counts p ≡ n → Ok (p.line, p.cursor.at) ≡ on {B = ℕ × ℕ} W (λ z. Ok (n, z.1))
+    pass_done e lines = ap (λ m. Ok (m, p.cursor.at)) (sym (pass_last p e) ∙ lines) ∙ sym (beside n W ∙ ap (λ R. on R (λ j. Ok (n, j))) (so_far ∙ ap (λ R. on {B = ℕ} R (λ z. Ok z.1)) (pass_end p e)))
 
-    pub pass_fault : (f : SheetFault) → Faulted reads h s p f → Err f ≡ on {B = ℕ × ℕ} W (λ z. Ok (n, z.1))
+    pub pass_fault : (f : SheetFault) → Faulted reads h p f → Err f ≡ on {B = ℕ × ℕ} W (λ z. Ok (n, z.1))
     pass_fault f e = sym (beside n W ∙ ap (λ R. on R (λ j. Ok (n, j))) (so_far ∙ ap (λ R. on {B = ℕ} R (λ z. Ok z.1)) e))

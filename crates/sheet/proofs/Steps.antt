@@ -9,28 +9,28 @@ use Rattle.sheet.specs.Passes.{Ready, Stepped, Faulted, left_at, line_behind}
 use Rattle.sheet.specs.declared.due.Due.{Due}
 use Rattle.sheet.specs.declared.fault.SheetFault.{SheetFault}
 use Rattle.sheet.specs.declared.progress.Progress.{Progress}
-use Rattle.sheet.specs.declared.rows.Heading.{Heading}
+use Rattle.sheet.specs.declared.heading.Heading.{Heading}
 use Rattle.sheet.specs.declared.rows.Entry.{Entry}
 use Rattle.sheet.proofs.Dues.{rows_step, stands_next, block_number}
 use Rattle.sheet.proofs.Going.{on_ok, on_err}
 
-module _ {D : Type 0} (reads : List ℕ → Result D Cause) (h : Heading) (sheet : List ℕ) (p : Progress) (d : Due) (was : p.due ≡ Some d) (ready : Ready h.counts p) where
+module _ {D : Type 0} (reads : List ℕ → Result D Cause) (h : Heading) (p : Progress) (d : Due) (was : p.due ≡ Some d) (ready : Ready h.counts p) where
   stands : Stands h.counts d
   stands = subst (StandsLeft h.counts) was ready.stands
 
   rows_from : rows_left h.counts p.due ≡ row_of h.counts d ∷ rows_left h.counts (next_due h.counts d)
   rows_from = ap (rows_left h.counts) was ∙ rows_step h.counts d stands
 
-  left_from : left_at reads h sheet p ≡ on (on_line p.line (number_of d) (value_at reads (counted h) sheet (row_of h.counts d) p.at)) (λ y. on (rows_at reads (counted h) sheet (rows_left h.counts (next_due h.counts d)) (p.line + 1) y.1) (λ z. Ok (with_value y.0 z.0, z.1)))
+  left_from : left_at reads h p ≡ on (on_line p.line (number_of d) (value_at reads (counted h) p.cursor.sheet.now (row_of h.counts d) p.cursor.at)) (λ y. on (rows_at reads (counted h) p.cursor.sheet.now (rows_left h.counts (next_due h.counts d)) (p.line + 1) y.1) (λ z. Ok (with_value y.0 z.0, z.1)))
   left_from =
-      ap (λ rs. rows_at reads (counted h) sheet rs p.line p.at) rows_from
-      ∙ ap (λ b. on (on_line p.line b (value_at reads (counted h) sheet (row_of h.counts d) p.at)) (λ y. on (rows_at reads (counted h) sheet (rows_left h.counts (next_due h.counts d)) (p.line + 1) y.1) (λ z. Ok (with_value y.0 z.0, z.1)))) (sym (block_number h.counts d))
+      ap (λ rs. rows_at reads (counted h) p.cursor.sheet.now rs p.line p.cursor.at) rows_from
+      ∙ ap (λ b. on (on_line p.line b (value_at reads (counted h) p.cursor.sheet.now (row_of h.counts d) p.cursor.at)) (λ y. on (rows_at reads (counted h) p.cursor.sheet.now (rows_left h.counts (next_due h.counts d)) (p.line + 1) y.1) (λ z. Ok (with_value y.0 z.0, z.1)))) (sym (block_number h.counts d))
 
-  pub faulted : (f : SheetFault) → Err f ≡ on_line p.line (number_of d) (value_at reads (counted h) sheet (row_of h.counts d) p.at) → Faulted reads h sheet p f
-  faulted f e = left_from ∙ on_err _ (λ y. on (rows_at reads (counted h) sheet (rows_left h.counts (next_due h.counts d)) (p.line + 1) y.1) (λ z. Ok (with_value y.0 z.0, z.1))) f e
+  pub faulted : (f : SheetFault) → Err f ≡ on_line p.line (number_of d) (value_at reads (counted h) p.cursor.sheet.now (row_of h.counts d) p.cursor.at) → Faulted reads h p f
+  faulted f e = left_from ∙ on_err _ (λ y. on (rows_at reads (counted h) p.cursor.sheet.now (rows_left h.counts (next_due h.counts d)) (p.line + 1) y.1) (λ z. Ok (with_value y.0 z.0, z.1))) f e
 
-  pub stepped : (w : Within h.counts) (q : Progress) (v : Entry D) → q.due ≡ next_due h.counts d → q.line ≡ p.line + 1 → Kinded d v → Ok (value_of v, q.at) ≡ on_line p.line (number_of d) (value_at reads (counted h) sheet (row_of h.counts d) p.at) → Stepped reads h sheet p q d v
-  stepped w q v next lines kind e =
+  pub stepped : (w : Within h.counts) (q : Progress) (v : Entry D) → q.due ≡ next_due h.counts d → q.line ≡ p.line + 1 → q.cursor.sheet ≡ p.cursor.sheet → Kinded d v → Ok (value_of v, q.cursor.at) ≡ on_line p.line (number_of d) (value_at reads (counted h) p.cursor.sheet.now (row_of h.counts d) p.cursor.at) → Stepped reads h p q d v
+  stepped w q v next lines sheet kind e =
       let left : rows_left h.counts q.due ≡ rows_left h.counts (next_due h.counts d) = ap (rows_left h.counts) next in
       let many : length (rows_left h.counts p.due) ≡ suc (length (rows_left h.counts q.due)) = ap length rows_from ∙ ap (λ rs. suc (length rs)) (sym left) in
       let same : line_behind h.counts q ≡ line_behind h.counts p = omega arith in
@@ -38,11 +38,12 @@ module _ {D : Type 0} (reads : List ℕ → Result D Cause) (h : Heading) (sheet
         was = was;
         next = next;
         lines = lines;
+        sheet = sheet;
         kind = kind;
         ready = record {
           stands = subst (StandsLeft h.counts) (sym next) (stands_next h.counts d w);
           lines = omega (arith, ready.lines);
         };
         behind = same;
-        more = left_from ∙ on_ok _ (λ y. on (rows_at reads (counted h) sheet (rows_left h.counts (next_due h.counts d)) (p.line + 1) y.1) (λ z. Ok (with_value y.0 z.0, z.1))) (value_of v, q.at) e ∙ ap (λ rs. on (rows_at reads (counted h) sheet rs (p.line + 1) q.at) (λ z. Ok (with_value (value_of v) z.0, z.1))) (sym left) ∙ ap (λ l. on (rows_at reads (counted h) sheet (rows_left h.counts q.due) l q.at) (λ z. Ok (with_value (value_of v) z.0, z.1))) (sym lines);
+        more = left_from ∙ on_ok _ (λ y. on (rows_at reads (counted h) p.cursor.sheet.now (rows_left h.counts (next_due h.counts d)) (p.line + 1) y.1) (λ z. Ok (with_value y.0 z.0, z.1))) (value_of v, q.cursor.at) e ∙ ap (λ rs. on (rows_at reads (counted h) p.cursor.sheet.now rs (p.line + 1) q.cursor.at) (λ z. Ok (with_value (value_of v) z.0, z.1))) (sym left) ∙ ap (λ l. on (rows_at reads (counted h) p.cursor.sheet.now (rows_left h.counts q.due) l q.cursor.at) (λ z. Ok (with_value (value_of v) z.0, z.1))) (sym lines) ∙ ap (λ b. on (rows_at reads (counted h) b.now (rows_left h.counts q.due) q.line q.cursor.at) (λ z. Ok (with_value (value_of v) z.0, z.1))) (sym sheet);
       }

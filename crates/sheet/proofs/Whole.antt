@@ -1,5 +1,5 @@
 -- The whole sheet: its first block, its rows and its flows make the answer.
-use Rattle.std.proofs.Common.{◌≡◌, ℕ, ◌+◌, ◌*◌, ◌≤◌, true, List, length, Ok, Err, Result, sym, refl, ap, ◌∙◌, subst, arith}
+use Rattle.std.proofs.Common.{◌≡◌, ℕ, ◌+◌, ◌*◌, ◌≤◌, true, List, map, length, Ok, Err, Result, sym, refl, ap, ◌∙◌, subst, arith}
 use Rattle.std.proofs.lemmas.Bool.{le-ltb}
 use Rattle.mark.specs.declared.cause.Cause.{Cause}
 use Rattle.policy.specs.declared.board.Board.{Board}
@@ -7,45 +7,43 @@ use Rattle.policy.specs.declared.refusal.Refusal.{Refusal}
 use Rattle.control.specs.Tables.{store_suffices}
 use Rattle.control.specs.declared.table.Counts.{Counts}
 use Rattle.sheet.specs.Calls.{Agrees, FoundAs, overwritten, read_answer, refusal_of, store_after}
+use Rattle.sheet.specs.Exact.{most_bytes}
 use Rattle.sheet.specs.Faults.{on, on_line}
 use Rattle.sheet.specs.Plan.{counts_title}
 use Rattle.sheet.specs.Reading.{Counted, Entries, Sheet, Value, nothing, names_at, counts_at, rows_at, flows_at, plan_of, sheet_read}
-use Rattle.sheet.specs.Due.{Within, names_in}
-use Rattle.sheet.specs.Entries.{counted}
+use Rattle.sheet.specs.Due.{Within, highest_line, names_in}
+use Rattle.sheet.specs.Entries.{counted, first_at}
 use Rattle.sheet.specs.Boards.{Lists, BoardAs}
 use Rattle.sheet.specs.Stores.{FilledBy}
 use Rattle.sheet.specs.declared.fault.MarkFault.{MarkFault}
 use Rattle.sheet.specs.declared.fault.SheetFault.{SheetFault}
 use Rattle.sheet.specs.declared.found.Found.{Found}
-use Rattle.sheet.specs.declared.rows.Heading.{Heading}
+use Rattle.sheet.specs.declared.heading.Heading.{Heading}
 use Rattle.sheet.proofs.Dues.{all_due, few_rows}
 
 -- no line of the rows is past the last of a largest sheet
-pub line_bound : (h : Heading) → Within h.counts → 3 + length (plan_of (counted h)) ≤ 3631
+pub line_bound : (h : Heading) → Within h.counts → 3 + length (plan_of (counted h)) ≤ highest_line
 line_bound h w = omega (arith, few_rows h.counts w, ap length (all_due h.counts))
 
 module _ {D : Type 0} (kind : List ℕ) (reads : List ℕ → Result D Cause) (s : List ℕ) where
-  -- the first block, and what stands behind it
-  abbrev first_at : Result (Counted × ℕ) SheetFault
-  first_at = on (on_line 1 1 (names_at (names_in counts_title) s 0)) (λ i. on_line 2 1 (counts_at kind s i))
-
+  -- what stands behind the first block
   abbrev flows_behind : Counted → ℕ → Result (List ℕ) SheetFault
   flows_behind c i = flows_at c.consoles s (c.consoles * c.consoles) 0 (3 + length (plan_of c)) i
 
   abbrev behind : Counted × ℕ → Result (Sheet D) SheetFault
   behind c = on (rows_at reads c.0 s (plan_of c.0) 3 c.1) (λ e. on (flows_behind c.0 e.1) (λ ps. Ok (record { counted = c.0; entries = e.0; flows = ps })))
 
-  first_then : sheet_read kind reads s ≡ on first_at behind
+  first_then : sheet_read kind reads s ≡ on (first_at kind s 0) behind
   first_then = by (names_at (names_in counts_title) s 0)
     where
       by : (N : Result ℕ MarkFault) → on {A = Value D × ℕ} (on_line 1 1 (on {B = Value D × ℕ} N (λ j. Ok (nothing, j)))) (λ t. on (on_line 2 1 (counts_at kind s t.1)) behind) ≡ on (on (on_line 1 1 N) (λ i. on_line 2 1 (counts_at kind s i))) behind
       by (Ok j) = refl
       by (Err f) = refl
 
-  pub first_fault : (f : SheetFault) → Err f ≡ first_at → sheet_read kind reads s ≡ Err f
+  pub first_fault : (f : SheetFault) → Err f ≡ first_at kind s 0 → sheet_read kind reads s ≡ Err f
   first_fault f e = first_then ∙ ap (λ R. on R behind) (sym e)
 
-  module _ (c : Counted) (i : ℕ) (first : Ok (c, i) ≡ first_at) where
+  module _ (c : Counted) (i : ℕ) (first : Ok (c, i) ≡ first_at kind s 0) where
     pub rows_fault : (f : SheetFault) → rows_at reads c s (plan_of c) 3 i ≡ Err f → sheet_read kind reads s ≡ Err f
     rows_fault f e = first_then ∙ ap (λ R. on R behind) (sym first) ∙ ap (λ R. on {A = Entries D × ℕ} R (λ z. on (flows_behind c z.1) (λ ps. Ok (record { counted = c; entries = z.0; flows = ps })))) e
 
@@ -60,12 +58,12 @@ module _ {D : Type 0} (kind : List ℕ) (reads : List ℕ → Result D Cause) (s
       all_read ps p = to_flows ∙ ap (λ R. on R (λ qs. Ok (record { counted = c; entries = e; flows = qs }))) p
 
   -- in stores that suffice
-  module _ (a b d : ℕ) (short : length s ≤ 40960) (room : store_suffices a b d ≡ true) where
+  module _ (a b d : ℕ) (short : length s ≤ most_bytes) (room : store_suffices a b d ≡ true) where
     pub answer_ok : (x : Sheet D) → sheet_read kind reads s ≡ Ok x → read_answer kind reads a b d s ≡ Ok x
-    answer_ok x e = let p = le-ltb 40960 (length s) short in cc
+    answer_ok x e = let p = le-ltb most_bytes (length s) short in cc
 
     pub answer_err : (f : SheetFault) → sheet_read kind reads s ≡ Err f → read_answer kind reads a b d s ≡ Err (refusal_of f)
-    answer_err f e = let p = le-ltb 40960 (length s) short in cc
+    answer_err f e = let p = le-ltb most_bytes (length s) short in cc
 
 -- what the calls before say of the rows and the flows
 module _ {D : Type 0} (n : ℕ) where
@@ -100,6 +98,11 @@ module _ {D : Type 0} (X : Result (Sheet D) Refusal) where
 
     pub store_filled : (x : Sheet D) (after : List A) → X ≡ Ok x → after ≡ overwritten (entries x) store → after ≡ store_after entries X store
     store_filled x after q h = h ∙ ap (λ Y. store_after entries Y store) (sym q)
+
+-- where the answer is the refusal that the call returns, the stores stay
+pub kept : {D C : Type 0} (cell : D → C) (X : Result (Sheet D) Refusal) (r : Result Found Refusal) (e : Refusal) (steps owners : List ℕ) (displays : List C) → r ≡ Err e → X ≡ Err e
+    → FoundAs r X × (steps ≡ store_after (λ x. x.entries.steps) X steps) × (owners ≡ store_after (λ x. x.entries.owners) X owners) × (displays ≡ store_after (λ x. map cell x.entries.displays) X displays)
+kept cell X r e steps owners displays p q = (found_err X r e p q, store_kept X (λ x. x.entries.steps) steps e q, store_kept X (λ x. x.entries.owners) owners e q, store_kept X (λ x. map cell x.entries.displays) displays e q)
 
 -- the store of a pass over rows that were read
 pub filled_ok : {D A : Type 0} (entries : Entries D → List A) (W : Result (Entries D × ℕ) SheetFault) (before after : List A) (e : Entries D) (j : ℕ) → W ≡ Ok (e, j) → FilledBy entries W before after → after ≡ overwritten (entries e) before

@@ -31,6 +31,10 @@ read_answer kind reads steps owners displays sheet =
     cond (nat_lt most_bytes (length sheet)) (Err SheetTooLong)
     (cond (store_suffices steps owners displays) (refused_as (sheet_read kind reads sheet)) (Err TableStoreTooSmall))
 
+-- the same for stores that are lent
+abbrev pub read_into : {D C : Type 0} → List ℕ → (List ℕ → Result D Cause) → List ℕ → List ℕ → List C → List ℕ → Result (Sheet D) Refusal
+read_into kind reads steps owners displays sheet = read_answer kind reads (length steps) (length owners) (length displays) sheet
+
 -- counts, start and flows as the sheet says them, and no lockout
 pub record Agrees {D : Type 0} (f : Found) (x : Sheet D) : Type 0 where
   pub states : f.counts.states ≡ x.counted.states

@@ -14,6 +14,11 @@ pub record Within (c : Counts) : Type 0 where
   pub commands : Count most_commands c.commands
   pub consoles : Count most_consoles c.consoles
 
+-- the line on which the flows of a largest control begin: behind the two lines of the first block,
+-- the names of four blocks, and a row for each command, step and display
+abbrev pub highest_line : ℕ
+highest_line = 3 + (4 + (most_commands + (most_states * most_commands + most_states * most_consoles)))
+
 abbrev pub names_in : Row → List (List ℕ)
 names_in (title b ws) = ws
 names_in (owner c) = []

@@ -1,9 +1,14 @@
 -- What the reader holds of a sheet's rows, as the sheet says it.
-use Rattle.std.specs.Prelude.{ℕ, Ok, Err, Result}
-use Rattle.sheet.specs.Reading.{Counted, Value, nothing, owned, stepped, showed}
+use Rattle.std.specs.Prelude.{ℕ, List, Ok, Err, Result}
+use Rattle.mark.specs.declared.cause.Cause.{Cause}
+use Rattle.sheet.specs.Faults.{on, on_line}
+use Rattle.sheet.specs.Plan.{counts_title}
+use Rattle.sheet.specs.Due.{names_in}
+use Rattle.sheet.specs.Reading.{Counted, Entries, names_at, counts_at, rows_at, plan_of, Value, nothing, owned, stepped, showed}
 use Rattle.sheet.specs.declared.due.Due.{Due}
 use Rattle.sheet.specs.declared.due.Due.TheVariants as due
-use Rattle.sheet.specs.declared.rows.Heading.{Heading}
+use Rattle.sheet.specs.declared.heading.Heading.{Heading}
+use Rattle.sheet.specs.declared.fault.SheetFault.{SheetFault}
 use Rattle.sheet.specs.declared.rows.Entry.{Entry}
 use Rattle.sheet.specs.declared.rows.Entry.TheVariants.{Nothing, Owner, Step, Shown}
 
@@ -13,6 +18,14 @@ counted h = record { states = h.counts.states; commands = h.counts.commands; con
 abbrev pub headed : {F : Type 0} → Result (Heading × ℕ) F → Result (Counted × ℕ) F
 headed (Ok y) = Ok (counted y.0, y.1)
 headed (Err f) = Err f
+
+-- the two lines of the first block, from place i on
+abbrev pub first_at : List ℕ → List ℕ → ℕ → Result (Counted × ℕ) SheetFault
+first_at kind sheet i = on (on_line 1 1 (names_at (names_in counts_title) sheet i)) (λ j. on_line 2 1 (counts_at kind sheet j))
+
+-- the rows behind it, from place i on
+abbrev pub rows_behind : {D : Type 0} → (List ℕ → Result D Cause) → Heading → List ℕ → ℕ → Result (Entries D × ℕ) SheetFault
+rows_behind reads h sheet i = rows_at reads (counted h) sheet (plan_of (counted h)) 3 i
 
 abbrev pub value_of : {D : Type 0} → Entry D → Value D
 value_of Nothing = nothing

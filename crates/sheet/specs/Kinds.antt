@@ -1,10 +1,13 @@
 -- Whether a refused sheet names readings where the refusal stands.
-use Rattle.std.specs.Prelude.{ℕ, Bool, ◌&&◌, List, drop, codes, ◌==◌}
+use Rattle.std.specs.Prelude.{ℕ, Bool, false, ◌&&◌, List, drop, codes, ◌==◌}
 use Rattle.mark.specs.Runs.{same_bytes}
-use Rattle.policy.specs.declared.refusal.Told.{Told}
+use Rattle.mark.specs.declared.cause.Cause.TheVariants.{NotDue}
+use Rattle.policy.specs.declared.refusal.Refusal.{Refusal}
+use Rattle.policy.specs.declared.refusal.Refusal.TheVariants.{Fault}
 use Rattle.sheet.specs.Marks.{run_of}
 
--- a 4 on line 2 of block 1, at the name of the kind of readings
-abbrev pub readings_named : List ℕ → Told → Bool
-readings_named sheet t =
-    (t.number == 4) && (t.line == 2 && (t.block == 1 && same_bytes (run_of (drop t.place sheet)) (codes "reading")))
+-- another mark than the one due, on line 2 of block 1, at the name of the kind of readings
+abbrev pub readings_named : List ℕ → Refusal → Bool
+readings_named sheet (Fault NotDue place line block) =
+    (line == 2) && (block == 1 && same_bytes (run_of (drop place sheet)) (codes "reading"))
+readings_named sheet _ = false

@@ -1,5 +1,5 @@
 -- Reading one mark and the byte behind it, at a place of a sheet.
-use Rattle.std.specs.Prelude.{ℕ, ◌+◌, cond, ◌||◌, List, [], ◌∷◌, length, drop, Some, None, Ok, Err, Option, Result, ◌==◌, nat_le, slice_index}
+use Rattle.std.specs.Prelude.{ℕ, ◌+◌, Bool, cond, ◌||◌, List, [], ◌∷◌, length, drop, Some, None, Ok, Err, Option, Result, ◌==◌, nat_le, slice_index}
 use Rattle.mark.specs.Runs.{number_in, same_bytes}
 use Rattle.mark.specs.Tokens.{Sort, name, number, negative, no_mark, sort_of}
 use Rattle.mark.specs.declared.cause.Cause.{Cause}
@@ -13,10 +13,14 @@ blank = 32
 abbrev pub newline : ℕ
 newline = 10
 
+-- the byte ends a run
+abbrev pub ends_run : ℕ → Bool
+ends_run b = b == blank || b == newline
+
 -- a run is what stands before the next blank, newline or end
 abbrev pub run_of : List ℕ → List ℕ
 run_of [] = []
-run_of (b ∷ bs) = cond (b == blank || b == newline) [] (b ∷ run_of bs)
+run_of (b ∷ bs) = cond (ends_run b) [] (b ∷ run_of bs)
 
 -- an empty run is no mark
 abbrev pub unless_empty : {A : Type 0} → (List ℕ → Result A Cause) → List ℕ → Result A Cause

@@ -1,8 +1,8 @@
 // Which row of a sheet is due, from the counts to the flows.
 ghost use Rattle.std.specs.Prelude.{◌≡◌};
-ghost use Rattle.sheet.specs.Due.{Within, Stands, number_of, next_due};
+ghost use Rattle.sheet.specs.Due.{Stands, number_of, next_due};
 
-use control::table::Counts;
+use crate::heading::Heading;
 
 // The blocks whose rows are known from the counts, and the last, whose names alone are.
 #[derive(Clone, Copy)]
@@ -40,10 +40,11 @@ impl Due {
     }
 
     // The row after it; behind the last row of a block stand the names of the next.
-    pub(crate) fn after(self, counts: &Counts) -> Option<Due>
-        requires { (Within counts.now) × (Stands counts.now self) }
-        ensures { result ≡ next_due counts.now self }
+    pub(crate) fn after(self, heading: &Heading) -> Option<Due>
+        requires { Stands heading.now.counts self }
+        ensures { result ≡ next_due heading.now.counts self }
     {
+        let counts = heading.counts;
         match self {
             Due::Title(Block::Owners) => Some(Due::Owner(0)),
             Due::Title(Block::Steps) => Some(Due::Step(0)),

@@ -1,7 +1,7 @@
 // Faults in a sheet: a mark's inside a row's inside a sheet's, each layer keeping the one below whole.
 ghost use Rattle.std.specs.Prelude.{◌≡◌};
 ghost use Rattle.sheet.specs.Calls.{refusal_of};
-ghost use Rattle.sheet.specs.Numbered.{numbered_by};
+ghost use Rattle.sheet.specs.Faults.{mark_fault, row_fault};
 
 use mark::cause::Cause;
 use policy::refusal::Refusal;
@@ -27,41 +27,28 @@ pub struct SheetFault {
     pub block: usize,
 }
 
-// What was read stays; a fault takes the number that the next layer adds with it.
-pub fn numbered<T, F>(res: Result<T, F>, number: usize) -> Result<T, (F, usize)>
-    ensures { result ≡ numbered_by number res }
-{
-    match res {
-        Ok(read) => Ok(read),
-        Err(fault) => Err((fault, number)),
-    }
-}
-
-// A fault with the number that the next layer adds.
-impl From<(Cause, usize)> for MarkFault {
-    ghost from_gives = { λ f r. r ≡ record { cause = f.0; place = f.1 } };
-
-    fn from(fault: (Cause, usize)) -> MarkFault {
-        let (cause, place) = fault;
+impl MarkFault {
+    // The cause at its place.
+    pub fn at(cause: Cause, place: usize) -> MarkFault
+        ensures { result ≡ mark_fault cause place }
+    {
         MarkFault { cause, place }
     }
-}
 
-impl From<(MarkFault, usize)> for RowFault {
-    ghost from_gives = { λ f r. r ≡ record { mark = f.0; line = f.1 } };
-
-    fn from(fault: (MarkFault, usize)) -> RowFault {
-        let (mark, line) = fault;
-        RowFault { mark, line }
+    // The fault on its line.
+    pub fn on_line(self, line: usize) -> RowFault
+        ensures { result ≡ row_fault line self }
+    {
+        RowFault { mark: self, line }
     }
 }
 
-impl From<(RowFault, usize)> for SheetFault {
-    ghost from_gives = { λ f r. r ≡ record { row = f.0; block = f.1 } };
-
-    fn from(fault: (RowFault, usize)) -> SheetFault {
-        let (row, block) = fault;
-        SheetFault { row, block }
+impl RowFault {
+    // The fault in its block.
+    pub fn in_block(self, block: usize) -> SheetFault
+        ensures { result ≡ record { row = self; block = block } }
+    {
+        SheetFault { row: self, block }
     }
 }
 

@@ -1,100 +1,77 @@
 // The last block: the flows, each in its turn, allowed on a board.
-ghost use Rattle.std.specs.Prelude.{◌≡◌, ◌+◌, ◌*◌, ◌<◌, ◌≤◌, IfOk};
-ghost use Rattle.theory.specs.Limits.{Count, most_consoles};
-ghost use Rattle.sheet.specs.Faults.{on_line};
-ghost use Rattle.sheet.specs.Numbered.{lined};
+ghost use Rattle.std.specs.Prelude.{◌≡◌, ◌+◌, ◌*◌, ◌<◌, ◌≤◌, IfOk, IfSome};
+ghost use Rattle.sheet.specs.Faults.{behind};
 ghost use Rattle.sheet.specs.Reading.{flow_at, flows_at};
-ghost use Rattle.sheet.specs.Due.{Within};
-ghost use Rattle.sheet.specs.Boards.{flow_due, BoardAs};
+ghost use Rattle.sheet.specs.Due.{highest_line};
+ghost use Rattle.sheet.specs.Boards.{flow_due, flow_next, BoardAs};
 
-use crate::fault::{MarkFault, RowFault, SheetFault, numbered};
-use crate::marks;
-use control::table::Counts;
+use crate::fault::{MarkFault, SheetFault};
+use crate::heading::Heading;
+use crate::marks::Cursor;
 use mark::cause::Cause;
 use policy::board::Board;
 use policy::refusal::Refusal;
 
 // A row of the last block, as the number of its pair of consoles.
-fn flow(sheet: &[u8], at: usize, consoles: usize) -> Result<(usize, usize), MarkFault>
-    requires { Count most_consoles consoles }
-    ensures read { result ≡ flow_at consoles sheet.now at }
-    ensures bound { IfOk result (λ y. y.0 < consoles * consoles) }
+fn flow(cursor: &mut Cursor, heading: &Heading) -> Result<usize, MarkFault>
+    ensures read { behind result cursor.new.at ≡ flow_at heading.now.counts.consoles cursor.old.sheet.now cursor.old.at }
+    ensures sheet { cursor.new.sheet ≡ cursor.old.sheet }
+    ensures bound { IfOk result (λ p. p < heading.now.counts.consoles * heading.now.counts.consoles) }
 {
-    let (from, at) = marks::ranged(sheet, at, 0, consoles - 1, b' ')?;
-    let (to, at) = marks::ranged(sheet, at, 0, consoles - 1, b'\n')?;
-    Ok((from * consoles + to, at))
+    let consoles = heading.counts.consoles;
+    let from = cursor.ranged(0, consoles - 1, b' ')?;
+    let to = cursor.ranged(0, consoles - 1, b'\n')?;
+    Ok(from * consoles + to)
 }
 
 // A flow that may come: no self flow, and no pair below `low`, the one behind the last.
-fn flow_due(
-    sheet: &[u8],
-    at: usize,
-    consoles: usize,
-    low: usize,
-) -> Result<(usize, usize), MarkFault>
-    requires { Count most_consoles consoles }
-    ensures read { result ≡ flow_due consoles low sheet.now at }
-    ensures bound { IfOk result (λ y. (low ≤ y.0) × (y.0 < consoles * consoles)) }
+fn flow_due(cursor: &mut Cursor, heading: &Heading, low: usize) -> Result<usize, MarkFault>
+    ensures read { behind result cursor.new.at ≡ flow_due heading.now.counts.consoles low cursor.old.sheet.now cursor.old.at }
+    ensures sheet { cursor.new.sheet ≡ cursor.old.sheet }
+    ensures bound { IfOk result (λ p. (low ≤ p) × (p < heading.now.counts.consoles * heading.now.counts.consoles)) }
 {
-    let (pair, behind) = flow(sheet, at, consoles)?;
+    let first = cursor.fault(Cause::NotDue);
+    let pair = flow(cursor, heading)?;
+    let consoles = heading.counts.consoles;
     if pair < low || pair / consoles == pair % consoles {
-        return Err(MarkFault {
-            cause: Cause::NotDue,
-            place: at,
-        });
+        return Err(first);
     }
-    Ok((pair, behind))
+    Ok(pair)
 }
 
-// The same on its line.
-fn flow_on(
-    sheet: &[u8],
-    at: usize,
-    line: usize,
-    consoles: usize,
-    low: usize,
-) -> Result<(usize, usize), RowFault>
-    requires { Count most_consoles consoles }
-    ensures read { result ≡ lined line (flow_due consoles low sheet.now at) }
-    ensures bound { IfOk result (λ y. (low ≤ y.0) × (y.0 < consoles * consoles)) }
-{
-    Ok(numbered(flow_due(sheet, at, consoles, low), line)?)
-}
-
-// The same in the last block.
+// The flow that comes next, if the sheet goes on; its line is one of the last block.
 fn next_flow(
-    sheet: &[u8],
-    at: usize,
+    cursor: &mut Cursor,
+    heading: &Heading,
     line: usize,
-    consoles: usize,
     low: usize,
-) -> Result<(usize, usize), SheetFault>
-    requires { Count most_consoles consoles }
-    ensures read { result ≡ on_line line 5 (flow_due consoles low sheet.now at) }
-    ensures bound { IfOk result (λ y. (low ≤ y.0) × (y.0 < consoles * consoles)) }
+) -> Result<Option<usize>, SheetFault>
+    ensures read { behind result cursor.new.at ≡ flow_next heading.now.counts.consoles low line cursor.old.sheet.now cursor.old.at }
+    ensures sheet { cursor.new.sheet ≡ cursor.old.sheet }
+    ensures bound { IfOk result (λ o. IfSome o (λ p. (low ≤ p) × (p < heading.now.counts.consoles * heading.now.counts.consoles))) }
 {
-    Ok(numbered(flow_on(sheet, at, line, consoles, low), 5)?)
+    if cursor.at >= cursor.sheet.len() {
+        return Ok(None);
+    }
+    let pair = flow_due(cursor, heading, low).map_err(|fault| fault.on_line(line).in_block(5))?;
+    Ok(Some(pair))
 }
 
 // The flows to the end of the sheet, on a board that is bare of any other.
 pub(crate) fn all_flows(
-    sheet: &[u8],
-    at: usize,
+    cursor: &mut Cursor,
     line: usize,
-    counts: &Counts,
+    heading: &Heading,
 ) -> Result<Board, Refusal>
-    requires { (Within counts.now) × (line ≤ 3631) }
-    ensures { BoardAs counts.now result (flows_at counts.now.consoles sheet.now (counts.now.consoles * counts.now.consoles) 0 line at) }
+    requires { line ≤ highest_line }
+    ensures { BoardAs heading.now.counts result (flows_at heading.now.counts.consoles cursor.old.sheet.now (heading.now.counts.consoles * heading.now.counts.consoles) 0 line cursor.old.at) }
 {
-    let consoles = counts.consoles;
-    let mut board = Board::bare(consoles, counts.commands)?;
-    let mut place = at;
+    let consoles = heading.counts.consoles;
+    let mut board = Board::bare(consoles, heading.counts.commands)?;
     let mut row = line;
     let mut low = 0;
-    while place < sheet.len() {
-        let (pair, behind) = next_flow(sheet, place, row, consoles, low)?;
+    while let Some(pair) = next_flow(cursor, heading, row, low)? {
         board.allow(pair / consoles, pair % consoles)?;
-        place = behind;
         row += 1;
         low = pair + 1;
     }

@@ -6,6 +6,7 @@ pub mod exact;
 pub mod fault;
 mod flows;
 pub mod found;
+mod heading;
 pub mod kinds;
 mod lines;
 mod marks;

@@ -1,182 +1,199 @@
-// Marks: the runs of a sheet, cut and sorted, and read as what is due.
-ghost use Rattle.std.specs.Prelude.{◌≡◌, ◌+◌, ◌≤◌, length, drop, IfOk, Ok, Err, MatchResult};
-ghost use Rattle.std.specs.List.{between};
-ghost use Rattle.sheet.specs.Marks.{blank, newline, run_of, mark_at, byte_at, item_at, name_reads, number_reads, exact_reads};
+// Marks: the runs of a sheet, cut and sorted, and read as what is due by a cursor over the sheet.
+ghost use Rattle.std.specs.Prelude.{◌≡◌, ◌+◌, ◌≤◌, map, length, position, IfOk, Ok, Err, MatchResult};
+ghost use Rattle.sheet.specs.Marks.{blank, newline, ends_run, run_of, mark_at, byte_at, item_at, name_reads, number_reads, exact_reads};
+ghost use Rattle.sheet.specs.Faults.{mark_fault, behind, place_behind};
+ghost use Rattle.sheet.specs.Reading.{names_at, exacts_at};
 ghost use Rattle.sheet.specs.Numbered.{placed, item_from};
 
-use crate::fault::{MarkFault, numbered};
+use crate::fault::MarkFault;
 use display::kind::DisplayKind;
 use mark::cause::Cause;
-use mark::token::{Token, number};
+use mark::token::Token;
 
-// Where the run that begins at `at` ends: at the next blank, newline or end of the sheet.
-pub(crate) fn run_end(sheet: &[u8], at: usize) -> usize
-    requires { at ≤ length sheet.now }
-    ensures within { (at ≤ result) × (result ≤ length sheet.now) }
-    ensures run { between at result sheet.now ≡ run_of (drop at sheet.now) }
+// Whether the byte ends a run.
+fn ends_run(byte: u8) -> bool
+    ensures { result ≡ ends_run byte }
 {
-    let mut end = at;
-    while end < sheet.len() && sheet[end] != b' ' && sheet[end] != b'\n' {
-        end += 1;
-    }
-    end
+    byte == b' ' || byte == b'\n'
 }
 
-// The run at a place, which is not empty.
-fn run(sheet: &[u8], at: usize) -> Result<&[u8], MarkFault>
-    ensures within { IfOk result (λ run. at + length run.now ≤ length sheet.now) }
-    ensures cut { MatchResult result (λ run. mark_at Ok sheet.now at ≡ Ok (run.now, at + length run.now)) (λ f. mark_at Ok sheet.now at ≡ Err f) }
+// Where the first byte stands that ends a run.
+fn run_end(rest: &[u8]) -> Option<usize>
+    ensures { result ≡ position ends_run rest.now }
 {
-    if at >= sheet.len() {
-        return Err(MarkFault {
-            cause: Cause::EndsEarly,
-            place: at,
-        });
-    }
-    let end = run_end(sheet, at);
-    if end == at {
-        return Err(MarkFault {
-            cause: Cause::NoMark,
-            place: at,
-        });
-    }
-    Ok(&sheet[at..end])
+    rest.iter().position(|byte| ends_run(*byte))
 }
 
-// The place behind the byte that is due at a place.
-fn byte(sheet: &[u8], at: usize, due: u8) -> Result<usize, MarkFault>
-    ensures { result ≡ byte_at due sheet.now at }
+// The run that bytes begin with, which ends before such a byte or with the last one.
+#[tactic(auto, using(crate::proofs::Cuts::cut))]
+pub(crate) fn run_of(rest: &[u8]) -> &[u8]
+    ensures run { result.now ≡ run_of rest.now }
+    ensures within { length result.now ≤ length rest.now }
 {
-    if at >= sheet.len() {
-        return Err(MarkFault {
-            cause: Cause::EndsEarly,
-            place: at,
-        });
+    match run_end(rest) {
+        Some(end) => &rest[..end],
+        None => rest,
     }
-    if sheet[at] != due {
-        return Err(MarkFault {
-            cause: Cause::NotDue,
-            place: at,
-        });
-    }
-    Ok(at + 1)
 }
 
-// The name `due` at a place, read from its run.
-fn name_in(run: &[u8], at: usize, due: &[u8]) -> Result<(), MarkFault>
-    ensures { result ≡ placed at (name_reads due.now run.now) }
+// The name that is due, read from its run.
+fn name_in(run: &[u8], at: usize, due: &[u8]) -> Result<(), Cause>
+    ensures { result ≡ name_reads due.now run.now }
 {
-    match numbered(Token::sort(run, at), at)? {
+    match Token::sort(run, at)? {
         Token::Name { run, .. } if run == due => Ok(()),
-        Token::Name { at, .. } | Token::Number { at, .. } | Token::Negative { at, .. } => {
-            Err(MarkFault {
-                cause: Cause::NotDue,
-                place: at,
-            })
-        }
+        Token::Name { .. } | Token::Number { .. } | Token::Negative { .. } => Err(Cause::NotDue),
     }
 }
 
 // A number from `least` to `most`, read from its run.
-fn number_in(run: &[u8], at: usize, least: usize, most: usize) -> Result<usize, MarkFault>
-    ensures read { result ≡ placed at (number_reads least most run.now) }
+fn number_in(run: &[u8], at: usize, least: usize, most: usize) -> Result<usize, Cause>
+    ensures read { result ≡ number_reads least most run.now }
     ensures bound { IfOk result (λ n. (least ≤ n) × (n ≤ most)) }
 {
-    match numbered(Token::sort(run, at), at)? {
-        Token::Name { at, .. } => Err(MarkFault {
-            cause: Cause::NotDue,
-            place: at,
-        }),
-        Token::Negative { at, .. } => Err(MarkFault {
-            cause: Cause::OutOfRange,
-            place: at,
-        }),
-        Token::Number { run, at, .. } => match number(run) {
-            None => Err(MarkFault {
-                cause: Cause::NoMark,
-                place: at,
-            }),
-            Some(n) if least <= n as usize && n as usize <= most => Ok(n as usize),
-            Some(_) => Err(MarkFault {
-                cause: Cause::OutOfRange,
-                place: at,
-            }),
-        },
+    match Token::sort(run, at)? {
+        Token::Number { value, .. } if least <= value as usize && value as usize <= most => {
+            Ok(value as usize)
+        }
+        Token::Number { .. } | Token::Negative { .. } => Err(Cause::OutOfRange),
+        Token::Name { .. } => Err(Cause::NotDue),
     }
 }
 
 // The number `due` itself, read from its run.
-fn exact_in(run: &[u8], at: usize, due: usize) -> Result<usize, MarkFault>
-    ensures { result ≡ placed at (exact_reads due run.now) }
+fn exact_in(run: &[u8], at: usize, due: usize) -> Result<usize, Cause>
+    ensures { result ≡ exact_reads due run.now }
 {
-    match numbered(Token::sort(run, at), at)? {
-        Token::Number { run, at, .. } => match number(run) {
-            None => Err(MarkFault {
-                cause: Cause::NoMark,
-                place: at,
-            }),
-            Some(n) if n as usize == due => Ok(due),
-            Some(_) => Err(MarkFault {
-                cause: Cause::NotDue,
-                place: at,
-            }),
-        },
-        Token::Name { at, .. } | Token::Negative { at, .. } => Err(MarkFault {
-            cause: Cause::NotDue,
-            place: at,
-        }),
+    match Token::sort(run, at)? {
+        Token::Number { value, .. } if value as usize == due => Ok(due),
+        Token::Name { .. } | Token::Number { .. } | Token::Negative { .. } => Err(Cause::NotDue),
     }
 }
 
-// A mark that was read from a run, and the byte behind the run.
-fn item<T: Copy>(
-    read: Result<T, MarkFault>,
-    sheet: &[u8],
-    end: usize,
-    then: u8,
-) -> Result<(T, usize), MarkFault>
-    ensures { result ≡ item_from read then sheet.now end }
-{
-    let mark = read?;
-    Ok((mark, byte(sheet, end, then)?))
+// A place in a sheet. What is due there is read, and moves it behind.
+#[derive(Clone, Copy)]
+pub struct Cursor<'a> {
+    pub sheet: &'a [u8],
+    pub at: usize,
 }
 
-// A name that is due and the byte behind it; the place behind both.
-pub(crate) fn name(sheet: &[u8], at: usize, due: &[u8], then: u8) -> Result<((), usize), MarkFault>
-    ensures { result ≡ item_at (name_reads due.now) then sheet.now at }
-{
-    let run = run(sheet, at)?;
-    item(name_in(run, at, due), sheet, at + run.len(), then)
-}
+impl<'a> Cursor<'a> {
+    // The cause at this place.
+    pub(crate) fn fault(&self, cause: Cause) -> MarkFault
+        ensures { result ≡ mark_fault cause self.now.at }
+    {
+        MarkFault::at(cause, self.at)
+    }
 
-// A number from `least` to `most` and the byte behind it; the number, and the place behind both.
-pub(crate) fn ranged(
-    sheet: &[u8],
-    at: usize,
-    least: usize,
-    most: usize,
-    then: u8,
-) -> Result<(usize, usize), MarkFault>
-    ensures read { result ≡ item_at (number_reads least most) then sheet.now at }
-    ensures bound { IfOk result (λ y. (least ≤ y.0) × (y.0 ≤ most)) }
-{
-    let run = run(sheet, at)?;
-    item(number_in(run, at, least, most), sheet, at + run.len(), then)
-}
+    // The run that begins here, which is not empty.
+    fn run(&self) -> Result<&'a [u8], MarkFault>
+        ensures within { IfOk result (λ run. self.now.at + length run.now ≤ length self.now.sheet.now) }
+        ensures cut { MatchResult result (λ run. mark_at Ok self.now.sheet.now self.now.at ≡ Ok (run.now, self.now.at + length run.now)) (λ f. mark_at Ok self.now.sheet.now self.now.at ≡ Err f) }
+    {
+        if self.at >= self.sheet.len() {
+            return Err(self.fault(Cause::EndsEarly));
+        }
+        let run = run_of(&self.sheet[self.at..]);
+        if run.is_empty() {
+            return Err(self.fault(Cause::NoMark));
+        }
+        Ok(run)
+    }
 
-// A number that is due itself and the blank behind it; the place behind both.
-pub(crate) fn exact(sheet: &[u8], at: usize, due: usize) -> Result<(usize, usize), MarkFault>
-    ensures { result ≡ item_at (exact_reads due) blank sheet.now at }
-{
-    let run = run(sheet, at)?;
-    item(exact_in(run, at, due), sheet, at + run.len(), b' ')
-}
+    // The byte that is due.
+    fn byte(&mut self, due: u8) -> Result<(), MarkFault>
+        ensures read { place_behind result self.new.at ≡ byte_at due self.old.sheet.now self.old.at }
+        ensures sheet { self.new.sheet ≡ self.old.sheet }
+    {
+        match self.sheet.get(self.at) {
+            None => Err(self.fault(Cause::EndsEarly)),
+            Some(byte) if *byte != due => Err(self.fault(Cause::NotDue)),
+            Some(_) => {
+                self.at += 1;
+                Ok(())
+            }
+        }
+    }
 
-// A display and the newline behind it; the kind reads the run itself.
-pub(crate) fn display<D: DisplayKind>(sheet: &[u8], at: usize) -> Result<(D, usize), MarkFault>
-    ensures { result ≡ item_at D.DisplayKind.reads newline sheet.now at }
-{
-    let run = run(sheet, at)?;
-    let display = numbered(D::read(run), at)?;
-    Ok((display, byte(sheet, at + run.len(), b'\n')?))
+    // What the run that begins here and ends at `end` was read as, and the byte behind it.
+    fn item<T: Copy>(
+        &mut self,
+        read: Result<T, Cause>,
+        end: usize,
+        then: u8,
+    ) -> Result<T, MarkFault>
+        ensures read { behind result self.new.at ≡ item_from (placed self.old.at read) then self.old.sheet.now end }
+        ensures sheet { self.new.sheet ≡ self.old.sheet }
+        ensures mark { IfOk result (λ x. read ≡ Ok x) }
+    {
+        let place = self.at;
+        let mark = read.map_err(|cause| MarkFault::at(cause, place))?;
+        self.at = end;
+        self.byte(then)?;
+        Ok(mark)
+    }
+
+    // A name that is due and the byte behind it.
+    pub(crate) fn name(&mut self, due: &[u8], then: u8) -> Result<(), MarkFault>
+        ensures read { behind result self.new.at ≡ item_at (name_reads due.now) then self.old.sheet.now self.old.at }
+        ensures sheet { self.new.sheet ≡ self.old.sheet }
+    {
+        let run = self.run()?;
+        self.item(name_in(run, self.at, due), self.at + run.len(), then)
+    }
+
+    // A number from `least` to `most` and the byte behind it.
+    pub(crate) fn ranged(&mut self, least: usize, most: usize, then: u8) -> Result<usize, MarkFault>
+        ensures read { behind result self.new.at ≡ item_at (number_reads least most) then self.old.sheet.now self.old.at }
+        ensures sheet { self.new.sheet ≡ self.old.sheet }
+        ensures bound { IfOk result (λ n. (least ≤ n) × (n ≤ most)) }
+    {
+        let run = self.run()?;
+        self.item(
+            number_in(run, self.at, least, most),
+            self.at + run.len(),
+            then,
+        )
+    }
+
+    // A number that is due itself and the blank behind it.
+    pub(crate) fn exact(&mut self, due: usize) -> Result<usize, MarkFault>
+        ensures read { behind result self.new.at ≡ item_at (exact_reads due) blank self.old.sheet.now self.old.at }
+        ensures sheet { self.new.sheet ≡ self.old.sheet }
+    {
+        let run = self.run()?;
+        self.item(exact_in(run, self.at, due), self.at + run.len(), b' ')
+    }
+
+    // A display and the newline behind it; the kind reads the run itself.
+    pub(crate) fn display<D: DisplayKind>(&mut self) -> Result<D, MarkFault>
+        ensures read { behind result self.new.at ≡ item_at D.DisplayKind.reads newline self.old.sheet.now self.old.at }
+        ensures sheet { self.new.sheet ≡ self.old.sheet }
+    {
+        let run = self.run()?;
+        self.item(D::read(run), self.at + run.len(), b'\n')
+    }
+
+    // The names of a title, a blank between and a newline behind.
+    pub(crate) fn names(&mut self, due: &[&[u8]]) -> Result<(), MarkFault>
+        ensures read { place_behind result self.new.at ≡ names_at (map (λ x. x.now) due.now) self.old.sheet.now self.old.at }
+        ensures sheet { self.new.sheet ≡ self.old.sheet }
+    {
+        for (i, word) in due.iter().enumerate() {
+            let then = if i + 1 < due.len() { b' ' } else { b'\n' };
+            self.name(word, then)?;
+        }
+        Ok(())
+    }
+
+    // The numbers that a row begins with.
+    pub(crate) fn exacts(&mut self, due: &[usize]) -> Result<(), MarkFault>
+        ensures read { place_behind result self.new.at ≡ exacts_at due.now self.old.sheet.now self.old.at }
+        ensures sheet { self.new.sheet ≡ self.old.sheet }
+    {
+        for number in due {
+            self.exact(*number)?;
+        }
+        Ok(())
+    }
 }

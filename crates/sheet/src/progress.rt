@@ -1,69 +1,53 @@
 // How far the reading of a sheet has come: the row that is due, its line and its place.
-ghost use Rattle.std.specs.Prelude.{◌≡◌, IfOk, MatchOption, MatchResult};
-ghost use Rattle.sheet.specs.Reading.{value_at};
-ghost use Rattle.sheet.specs.Numbered.{lined};
-ghost use Rattle.sheet.specs.Due.{Within, row_of};
-ghost use Rattle.sheet.specs.Entries.{counted, told, Kinded};
-ghost use Rattle.sheet.specs.Passes.{Ready, Stepped, Ended, Faulted, started};
+ghost use Rattle.std.specs.Prelude.{◌≡◌};
+ghost use Rattle.sheet.specs.Passes.{Ready, Went, started};
 
 use crate::due::{Block, Due};
-use crate::fault::{MarkFault, RowFault, SheetFault, numbered};
+use crate::fault::SheetFault;
+use crate::heading::Heading;
+use crate::marks::Cursor;
 use crate::rows;
-use crate::rows::{Entry, Heading};
+use crate::rows::Entry;
 use display::kind::DisplayKind;
 
 #[derive(Clone, Copy)]
-pub struct Progress {
+pub struct Progress<'a> {
     // none once only flows can follow
     pub due: Option<Due>,
     // counted from 1
     pub line: usize,
-    pub at: usize,
+    pub cursor: Cursor<'a>,
 }
 
-// The row that is due, on its line.
-fn row_on<D: DisplayKind>(
-    sheet: &[u8],
-    at: usize,
-    line: usize,
-    heading: &Heading,
-    due: Due,
-) -> Result<(Entry<D>, usize), RowFault>
-    requires { Within heading.now.counts }
-    ensures read { told result ≡ lined line (value_at D.DisplayKind.reads (counted heading.now) sheet.now (row_of heading.now.counts due) at) }
-    ensures kind { IfOk result (λ y. Kinded due y.0) }
-{
-    Ok(numbered(rows::row(sheet, at, heading, due), line)?)
-}
-
-impl Progress {
+impl<'a> Progress<'a> {
     // Behind the two lines of the first block.
-    pub(crate) fn start(at: usize) -> Progress
-        ensures { result ≡ started at }
+    pub(crate) fn start(cursor: Cursor<'a>) -> Progress<'a>
+        ensures { result ≡ started cursor.entry }
     {
         Progress {
             due: Some(Due::Title(Block::Owners)),
             line: 3,
-            at,
+            cursor,
         }
     }
 
     // Reads the row that is due, if there is one, and goes on to the row after it.
     pub(crate) fn next<D: DisplayKind>(
         &mut self,
-        sheet: &[u8],
         heading: &Heading,
     ) -> Result<Option<(Due, Entry<D>)>, SheetFault>
-        requires { (Within heading.now.counts) × (Ready heading.now.counts self.old) }
-        ensures { MatchResult result (λ o. MatchOption o (Ended D.DisplayKind.reads heading.now sheet.now self.old self.new) (λ y. Stepped D.DisplayKind.reads heading.now sheet.now self.old self.new y.0 y.1)) (λ f. Faulted D.DisplayKind.reads heading.now sheet.now self.old f) }
+        requires { Ready heading.now.counts self.old }
+        ensures { Went D.DisplayKind.reads heading.now self.old result self.new }
     {
         let Some(due) = self.due else {
             return Ok(None);
         };
-        let (entry, at) = numbered(row_on(sheet, self.at, self.line, heading, due), due.block())?;
-        self.due = due.after(&heading.counts);
+        let line = self.line;
+        let entry = rows::row(&mut self.cursor, heading, due).map_err(|fault| fault
+            .on_line(line)
+            .in_block(due.block()))?;
+        self.due = due.after(heading);
         self.line += 1;
-        self.at = at;
         Ok(Some((due, entry)))
     }
 }

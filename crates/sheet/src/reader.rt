@@ -1,54 +1,44 @@
 // Reading a sheet: once over the whole of it, and then again to fill the tables.
 ghost use Rattle.std.specs.Prelude.{◌≡◌, ◌+◌, true, map, length, IfOk, Ok};
 ghost use Rattle.control.specs.Tables.{store_suffices};
-ghost use Rattle.sheet.specs.Calls.{FoundAs, read_answer, store_after};
-ghost use Rattle.sheet.specs.Faults.{on, on_line};
-ghost use Rattle.sheet.specs.Numbered.{lined};
-ghost use Rattle.sheet.specs.Plan.{counts_title};
-ghost use Rattle.sheet.specs.Reading.{names_at, counts_at, plan_of, rows_at};
-ghost use Rattle.sheet.specs.Due.{Within, names_in};
-ghost use Rattle.sheet.specs.Entries.{counted, headed};
+ghost use Rattle.sheet.specs.Calls.{FoundAs, read_into, store_after};
+ghost use Rattle.sheet.specs.Faults.{on, behind};
+ghost use Rattle.sheet.specs.Reading.{plan_of};
+ghost use Rattle.sheet.specs.Entries.{counted, headed, first_at, rows_behind};
 ghost use Rattle.sheet.specs.Stores.{Holds, steps_with, owners_with, displays_with, FilledBy};
 
 use crate::due::Due;
-use crate::fault::{RowFault, SheetFault, numbered};
+use crate::fault::SheetFault;
 use crate::flows::all_flows;
 use crate::found::Found;
+use crate::heading::Heading;
+use crate::marks::Cursor;
 use crate::progress::Progress;
 use crate::rows;
-use crate::rows::{Entry, Heading};
+use crate::rows::Entry;
+use control::table::{DISPLAYS, OWNERS, STEPS};
 use display::kind::DisplayKind;
 use policy::refusal::Refusal;
+use theory::limits::MOST_SHEET_BYTES;
 
-// The two lines of the first block.
-fn first_lines<D: DisplayKind>(sheet: &[u8]) -> Result<(Heading, usize), RowFault>
-    ensures read { headed result ≡ on (lined 1 (names_at (names_in counts_title) sheet.now 0)) (λ i. lined 2 (counts_at D.DisplayKind.kind sheet.now i)) }
-    ensures within { IfOk result (λ y. Within y.0.counts) }
+// The first block: the counts and the start.
+fn first_block<D: DisplayKind>(cursor: &mut Cursor) -> Result<Heading, SheetFault>
+    ensures read { headed (behind result cursor.new.at) ≡ first_at D.DisplayKind.kind cursor.old.sheet.now cursor.old.at }
+    ensures sheet { cursor.new.sheet ≡ cursor.old.sheet }
 {
-    let at = numbered(rows::counts_title(sheet), 1)?;
-    Ok(numbered(rows::counts_row::<D>(sheet, at), 2)?)
+    rows::counts_title(cursor).map_err(|fault| fault.on_line(1).in_block(1))?;
+    rows::counts_row::<D>(cursor).map_err(|fault| fault.on_line(2).in_block(1))
 }
 
-// The first block: the counts and the start, and the place behind it.
-fn first_block<D: DisplayKind>(sheet: &[u8]) -> Result<(Heading, usize), SheetFault>
-    ensures read { headed result ≡ on (on_line 1 1 (names_at (names_in counts_title) sheet.now 0)) (λ i. on_line 2 1 (counts_at D.DisplayKind.kind sheet.now i)) }
-    ensures within { IfOk result (λ y. Within y.0.counts) }
+// Reads the rows before the flows and keeps nothing of them; the line behind them.
+fn pass_rows<D: DisplayKind>(cursor: &mut Cursor, heading: &Heading) -> Result<usize, SheetFault>
+    ensures read { behind result cursor.new.at ≡ on (rows_behind D.DisplayKind.reads heading.now cursor.old.sheet.now cursor.old.at) (λ z. Ok (3 + length (plan_of (counted heading.now)), z.1)) }
+    ensures sheet { cursor.new.sheet ≡ cursor.old.sheet }
 {
-    Ok(numbered(first_lines::<D>(sheet), 1)?)
-}
-
-// Reads the rows before the flows and keeps nothing of them; the line and the place behind them.
-fn pass_rows<D: DisplayKind>(
-    sheet: &[u8],
-    at: usize,
-    heading: &Heading,
-) -> Result<(usize, usize), SheetFault>
-    requires { Within heading.now.counts }
-    ensures { result ≡ on (rows_at D.DisplayKind.reads (counted heading.now) sheet.now (plan_of (counted heading.now)) 3 at) (λ z. Ok (3 + length (plan_of (counted heading.now)), z.1)) }
-{
-    let mut progress = Progress::start(at);
-    while let Some(_) = progress.next::<D>(sheet, heading)? {}
-    Ok((progress.line, progress.at))
+    let mut progress = Progress::start(*cursor);
+    while let Some(_) = progress.next::<D>(heading)? {}
+    cursor.at = progress.cursor.at;
+    Ok(progress.line)
 }
 
 // Writes what a row says where it belongs.
@@ -75,21 +65,20 @@ fn keep<D: DisplayKind>(
 
 // Reads the rows before the flows again, and keeps what they say.
 fn fill<D: DisplayKind>(
-    sheet: &[u8],
-    at: usize,
+    cursor: &Cursor,
     heading: &Heading,
     steps: &mut [u8],
     owners: &mut [u8],
     displays: &mut [D::Cell],
 ) -> Result<(), SheetFault>
-    requires { (Within heading.now.counts) × (store_suffices (length steps.old) (length owners.old) (length displays.old) ≡ true) }
-    ensures read { result ≡ on (rows_at D.DisplayKind.reads (counted heading.now) sheet.now (plan_of (counted heading.now)) 3 at) (λ _. Ok tt) }
-    ensures steps { FilledBy (λ e. e.steps) (rows_at D.DisplayKind.reads (counted heading.now) sheet.now (plan_of (counted heading.now)) 3 at) steps.old steps.new }
-    ensures owners { FilledBy (λ e. e.owners) (rows_at D.DisplayKind.reads (counted heading.now) sheet.now (plan_of (counted heading.now)) 3 at) owners.old owners.new }
-    ensures displays { FilledBy (λ e. map D.DisplayKind.cell e.displays) (rows_at D.DisplayKind.reads (counted heading.now) sheet.now (plan_of (counted heading.now)) 3 at) displays.old displays.new }
+    requires { store_suffices (length steps.old) (length owners.old) (length displays.old) ≡ true }
+    ensures read { result ≡ on (rows_behind D.DisplayKind.reads heading.now cursor.now.sheet.now cursor.now.at) (λ _. Ok tt) }
+    ensures steps { FilledBy (λ e. e.steps) (rows_behind D.DisplayKind.reads heading.now cursor.now.sheet.now cursor.now.at) steps.old steps.new }
+    ensures owners { FilledBy (λ e. e.owners) (rows_behind D.DisplayKind.reads heading.now cursor.now.sheet.now cursor.now.at) owners.old owners.new }
+    ensures displays { FilledBy (λ e. map D.DisplayKind.cell e.displays) (rows_behind D.DisplayKind.reads heading.now cursor.now.sheet.now cursor.now.at) displays.old displays.new }
 {
-    let mut progress = Progress::start(at);
-    while let Some((due, entry)) = progress.next::<D>(sheet, heading)? {
+    let mut progress = Progress::start(*cursor);
+    while let Some((due, entry)) = progress.next::<D>(heading)? {
         keep(due, entry, steps, owners, displays);
     }
     Ok(())
@@ -103,21 +92,23 @@ pub fn read<D: DisplayKind>(
     owners: &mut [u8],
     displays: &mut [D::Cell],
 ) -> Result<Found, Refusal>
-    ensures found { FoundAs result (read_answer D.DisplayKind.kind D.DisplayKind.reads (length steps.old) (length owners.old) (length displays.old) sheet.now) }
-    ensures steps { steps.new ≡ store_after (λ x. x.entries.steps) (read_answer D.DisplayKind.kind D.DisplayKind.reads (length steps.old) (length owners.old) (length displays.old) sheet.now) steps.old }
-    ensures owners { owners.new ≡ store_after (λ x. x.entries.owners) (read_answer D.DisplayKind.kind D.DisplayKind.reads (length steps.old) (length owners.old) (length displays.old) sheet.now) owners.old }
-    ensures displays { displays.new ≡ store_after (λ x. map D.DisplayKind.cell x.entries.displays) (read_answer D.DisplayKind.kind D.DisplayKind.reads (length steps.old) (length owners.old) (length displays.old) sheet.now) displays.old }
+    ensures found { FoundAs result (read_into D.DisplayKind.kind D.DisplayKind.reads steps.old owners.old displays.old sheet.now) }
+    ensures steps { steps.new ≡ store_after (λ x. x.entries.steps) (read_into D.DisplayKind.kind D.DisplayKind.reads steps.old owners.old displays.old sheet.now) steps.old }
+    ensures owners { owners.new ≡ store_after (λ x. x.entries.owners) (read_into D.DisplayKind.kind D.DisplayKind.reads steps.old owners.old displays.old sheet.now) owners.old }
+    ensures displays { displays.new ≡ store_after (λ x. map D.cell x.entries.displays) (read_into D.DisplayKind.kind D.DisplayKind.reads steps.old owners.old displays.old sheet.now) displays.old }
 {
-    if sheet.len() > 40960 {
+    if sheet.len() > MOST_SHEET_BYTES {
         return Err(Refusal::SheetTooLong);
     }
-    if steps.len() < 2400 || owners.len() < 24 || displays.len() < 1200 {
+    if steps.len() < STEPS || owners.len() < OWNERS || displays.len() < DISPLAYS {
         return Err(Refusal::TableStoreTooSmall);
     }
-    let (heading, at) = first_block::<D>(sheet)?;
-    let (line, end) = pass_rows::<D>(sheet, at, &heading)?;
-    let board = all_flows(sheet, end, line, &heading.counts)?;
-    fill::<D>(sheet, at, &heading, steps, owners, displays)?;
+    let mut cursor = Cursor { sheet, at: 0 };
+    let heading = first_block::<D>(&mut cursor)?;
+    let first = cursor;
+    let line = pass_rows::<D>(&mut cursor, &heading)?;
+    let board = all_flows(&mut cursor, line, &heading)?;
+    fill::<D>(&first, &heading, steps, owners, displays)?;
     Ok(Found {
         counts: heading.counts,
         start: heading.start,

@@ -5,9 +5,11 @@ use Rattle.control.specs.Tables.{store_suffices}
 use Rattle.sheet.specs.Calls.{read_answer, refusal_of}
 use Rattle.sheet.specs.Faults.{on}
 use Rattle.sheet.specs.Reading.{Sheet, plan_of, rows_at, flows_at}
+use Rattle.sheet.specs.Due.{highest_line}
 use Rattle.sheet.specs.Entries.{counted}
+use Rattle.sheet.specs.Boards.{BoardAs}
 use Rattle.sheet.proofs.Going.{left_as}
-use Rattle.sheet.proofs.Whole.{line_bound, first_fault, rows_fault, flows_fault, all_read, answer_ok, answer_err, rows_passed, rows_stopped, board_from, refusal_from, found_err, found_ok, store_kept, store_filled, filled_ok}
+use Rattle.sheet.proofs.Whole.{line_bound, first_fault, rows_fault, flows_fault, all_read, answer_ok, answer_err, rows_passed, rows_stopped, board_from, refusal_from, found_ok, kept, store_filled, filled_ok}
 use Rattle.sheet.proofs.reader.read.Goals as goal
 
 -- stores of these lengths suffice
@@ -23,15 +25,11 @@ returns-in_err-heading g c =
     let owners = c.args.owners.now in
     let displays = c.args.displays.now in
     let f = c.in_err-heading.field-0.0 in
-    let X = read_answer kind reads (length steps) (length owners) (length displays) s in
-    let room = suffices (length steps) (length owners) (length displays) c.if-steps-lt2400.false c.if-owners-lt24.false c.if-displays-lt1200.false in
-    let answer = answer_err kind reads s (length steps) (length owners) (length displays) c.if-sheet-gt40960.false room f (first_fault kind reads s f c.in_err-heading.ensures.read) in
-    record {
-      found = found_err X c.from_residual.result (refusal_of f) (left_as c.from_residual.result (refusal_of f) c.from_residual.ensures.1) answer;
-      steps = store_kept X (λ x. x.entries.steps) steps (refusal_of f) answer;
-      owners = store_kept X (λ x. x.entries.owners) owners (refusal_of f) answer;
-      displays = store_kept X (λ x. map g.D.DisplayKind.cell x.entries.displays) displays (refusal_of f) answer;
-    }
+    let room = suffices (length steps) (length owners) (length displays) (omega arith) (omega arith) (omega arith) in
+    let all = kept g.D.DisplayKind.cell (read_answer kind reads (length steps) (length owners) (length displays) s) c.from_residual.result (refusal_of f) steps owners displays
+    (left_as c.from_residual.result (refusal_of f) c.from_residual.ensures.1)
+    (answer_err kind reads s (length steps) (length owners) (length displays) (omega arith) room f (first_fault kind reads s f c.in_err-heading.ensures.read)) in
+    record { found = all.0; steps = all.1; owners = all.2; displays = all.3 }
 
 pub returns-in_err-line : goal.returns-in_err-line
 returns-in_err-line g c =
@@ -42,27 +40,23 @@ returns-in_err-line g c =
     let owners = c.args.owners.now in
     let displays = c.args.displays.now in
     let h = c.in_ok-heading.heading in
-    let i = c.in_ok-heading.at in
+    let i = c.first_block.new.cursor.at in
     let f = c.in_err-line.field-0.0 in
-    let W = rows_at reads (counted h) s (plan_of (counted h)) 3 i in
-    let X = read_answer kind reads (length steps) (length owners) (length displays) s in
-    let room = suffices (length steps) (length owners) (length displays) c.if-steps-lt2400.false c.if-owners-lt24.false c.if-displays-lt1200.false in
-    let stopped = rows_stopped (3 + length (plan_of (counted h))) W f c.in_err-line.ensures in
-    let answer = answer_err kind reads s (length steps) (length owners) (length displays) c.if-sheet-gt40960.false room f (rows_fault kind reads s (counted h) i c.in_ok-heading.ensures.read f stopped) in
-    record {
-      found = found_err X c.from_residual-in_err-line.result (refusal_of f) (left_as c.from_residual-in_err-line.result (refusal_of f) c.from_residual-in_err-line.ensures.1) answer;
-      steps = store_kept X (λ x. x.entries.steps) steps (refusal_of f) answer;
-      owners = store_kept X (λ x. x.entries.owners) owners (refusal_of f) answer;
-      displays = store_kept X (λ x. map g.D.DisplayKind.cell x.entries.displays) displays (refusal_of f) answer;
-    }
+    let n = 3 + length (plan_of (counted h)) in
+    let room = suffices (length steps) (length owners) (length displays) (omega arith) (omega arith) (omega arith) in
+    let stopped = rows_stopped n (rows_at reads (counted h) s (plan_of (counted h)) 3 i) f
+    (c.in_err-line.ensures.read ∙ ap (λ b. on {B = ℕ × ℕ} (rows_at reads (counted h) b.now (plan_of (counted h)) 3 i) (λ z. Ok (n, z.1))) c.in_ok-heading.ensures.sheet) in
+    let all = kept g.D.DisplayKind.cell (read_answer kind reads (length steps) (length owners) (length displays) s) c.from_residual-in_err-line.result (refusal_of f) steps owners displays
+    (left_as c.from_residual-in_err-line.result (refusal_of f) c.from_residual-in_err-line.ensures.1)
+    (answer_err kind reads s (length steps) (length owners) (length displays) (omega arith) room f (rows_fault kind reads s (counted h) i c.in_ok-heading.ensures.read f stopped)) in
+    record { found = all.0; steps = all.1; owners = all.2; displays = all.3 }
 
 pub all_flows-requires : goal.all_flows-requires
 all_flows-requires g c =
     let h = c.in_ok-heading.heading in
-    let w = c.in_ok-heading.ensures.within in
-    let W = rows_at g.D.DisplayKind.reads (counted h) c.args.sheet.now (plan_of (counted h)) 3 c.in_ok-heading.at in
-    let passed = rows_passed (3 + length (plan_of (counted h))) W c.in_ok-line.line c.in_ok-line.end c.in_ok-line.ensures in
-    (w, subst (λ n. n ≤ 3631) (sym passed.2) (line_bound h w))
+    let before = c.first_block.new.cursor in
+    let passed = rows_passed (3 + length (plan_of (counted h))) (rows_at g.D.DisplayKind.reads (counted h) before.sheet.now (plan_of (counted h)) 3 before.at) c.in_ok-line.line c.pass_rows.new.cursor.at c.in_ok-line.ensures.read in
+    subst (λ n. n ≤ highest_line) (sym passed.2) (line_bound h h.within)
 
 pub returns-in_err-board : goal.returns-in_err-board
 returns-in_err-board g c =
@@ -73,29 +67,26 @@ returns-in_err-board g c =
     let owners = c.args.owners.now in
     let displays = c.args.displays.now in
     let h = c.in_ok-heading.heading in
-    let i = c.in_ok-heading.at in
+    let i = c.first_block.new.cursor.at in
     let k = h.counts.consoles in
-    let j = c.in_ok-line.end in
+    let j = c.pass_rows.new.cursor.at in
     let n = 3 + length (plan_of (counted h)) in
     let e = c.in_err-board.field-0.0 in
-    let W = rows_at reads (counted h) s (plan_of (counted h)) 3 i in
-    let X = read_answer kind reads (length steps) (length owners) (length displays) s in
-    let room = suffices (length steps) (length owners) (length displays) c.if-steps-lt2400.false c.if-owners-lt24.false c.if-displays-lt1200.false in
-    let passed = rows_passed n W c.in_ok-line.line j c.in_ok-line.ensures in
-    let refused = refusal_from h.counts e (flows_at k s (k * k) 0 c.in_ok-line.line j) c.in_err-board.ensures in
-    let answer = answer_err kind reads s (length steps) (length owners) (length displays) c.if-sheet-gt40960.false room refused.0 (flows_fault kind reads s (counted h) i c.in_ok-heading.ensures.read passed.0 j passed.1 refused.0 (ap (λ m. flows_at k s (k * k) 0 m j) (sym passed.2) ∙ refused.1)) in
-    record {
-      found = found_err X c.from_residual-in_err-board.result (refusal_of refused.0) (left_as c.from_residual-in_err-board.result e c.from_residual-in_err-board.ensures.1 ∙ ap Err refused.2) answer;
-      steps = store_kept X (λ x. x.entries.steps) steps (refusal_of refused.0) answer;
-      owners = store_kept X (λ x. x.entries.owners) owners (refusal_of refused.0) answer;
-      displays = store_kept X (λ x. map g.D.DisplayKind.cell x.entries.displays) displays (refusal_of refused.0) answer;
-    }
+    let room = suffices (length steps) (length owners) (length displays) (omega arith) (omega arith) (omega arith) in
+    let passed = rows_passed n (rows_at reads (counted h) s (plan_of (counted h)) 3 i) c.in_ok-line.line j
+    (c.in_ok-line.ensures.read ∙ ap (λ b. on {B = ℕ × ℕ} (rows_at reads (counted h) b.now (plan_of (counted h)) 3 i) (λ z. Ok (n, z.1))) c.in_ok-heading.ensures.sheet) in
+    let refused = refusal_from h.counts e (flows_at k s (k * k) 0 c.in_ok-line.line j)
+    (subst (λ b. BoardAs h.counts (Err e) (flows_at k b.now (k * k) 0 c.in_ok-line.line j)) (c.in_ok-line.ensures.sheet ∙ c.in_ok-heading.ensures.sheet) c.in_err-board.ensures) in
+    let all = kept g.D.DisplayKind.cell (read_answer kind reads (length steps) (length owners) (length displays) s) c.from_residual-in_err-board.result (refusal_of refused.0) steps owners displays
+    (left_as c.from_residual-in_err-board.result e c.from_residual-in_err-board.ensures.1 ∙ ap Err refused.2)
+    (answer_err kind reads s (length steps) (length owners) (length displays) (omega arith) room refused.0 (flows_fault kind reads s (counted h) i c.in_ok-heading.ensures.read passed.0 j passed.1 refused.0 (ap (λ m. flows_at k s (k * k) 0 m j) (sym passed.2) ∙ refused.1))) in
+    record { found = all.0; steps = all.1; owners = all.2; displays = all.3 }
 
 pub returns-in_err-fill : goal.returns-in_err-fill
 returns-in_err-fill g c =
     let h = c.in_ok-heading.heading in
-    let W = rows_at g.D.DisplayKind.reads (counted h) c.args.sheet.now (plan_of (counted h)) 3 c.in_ok-heading.at in
-    let passed = rows_passed (3 + length (plan_of (counted h))) W c.in_ok-line.line c.in_ok-line.end c.in_ok-line.ensures in
+    let before = c.first_block.new.cursor in
+    let passed = rows_passed (3 + length (plan_of (counted h))) (rows_at g.D.DisplayKind.reads (counted h) before.sheet.now (plan_of (counted h)) 3 before.at) c.in_ok-line.line c.pass_rows.new.cursor.at c.in_ok-line.ensures.read in
     let never : Err c.in_err-fill.field-0.0 ≡ Ok tt = c.in_err-fill.ensures.read ∙ ap (λ R. on R (λ z. Ok tt)) passed.1 in
     let z : ◌≡◌ {A = ℕ} 0 1 = cc in
     absurd (omega arith)
@@ -110,18 +101,21 @@ returns g c =
     let owners = c.args.owners.now in
     let displays = c.args.displays.now in
     let h = c.in_ok-heading.heading in
-    let i = c.in_ok-heading.at in
+    let before = c.first_block.new.cursor in
+    let i = before.at in
     let k = h.counts.consoles in
-    let j = c.in_ok-line.end in
+    let j = c.pass_rows.new.cursor.at in
     let n = 3 + length (plan_of (counted h)) in
     let b = c.in_ok-board.board in
-    let W = rows_at reads (counted h) s (plan_of (counted h)) 3 i in
+    let V = rows_at reads (counted h) before.sheet.now (plan_of (counted h)) 3 i in
     let X = read_answer kind reads (length steps) (length owners) (length displays) s in
-    let room = suffices (length steps) (length owners) (length displays) c.if-steps-lt2400.false c.if-owners-lt24.false c.if-displays-lt1200.false in
-    let passed = rows_passed n W c.in_ok-line.line j c.in_ok-line.ensures in
-    let listed = board_from h.counts b (flows_at k s (k * k) 0 c.in_ok-line.line j) c.in_ok-board.ensures in
+    let room = suffices (length steps) (length owners) (length displays) (omega arith) (omega arith) (omega arith) in
+    let same = ap (λ b. rows_at reads (counted h) b.now (plan_of (counted h)) 3 i) c.in_ok-heading.ensures.sheet in
+    let passed = rows_passed n V c.in_ok-line.line j c.in_ok-line.ensures.read in
+    let listed = board_from h.counts b (flows_at k s (k * k) 0 c.in_ok-line.line j)
+    (subst (λ t. BoardAs h.counts (Ok b) (flows_at k t.now (k * k) 0 c.in_ok-line.line j)) (c.in_ok-line.ensures.sheet ∙ c.in_ok-heading.ensures.sheet) c.in_ok-board.ensures) in
     let x : Sheet g.row.D.Denot = record { counted = counted h; entries = passed.0; flows = listed.0 } in
-    let answer = answer_ok kind reads s (length steps) (length owners) (length displays) c.if-sheet-gt40960.false room x (all_read kind reads s (counted h) i c.in_ok-heading.ensures.read passed.0 j passed.1 listed.0 (ap (λ m. flows_at k s (k * k) 0 m j) (sym passed.2) ∙ listed.1)) in
+    let answer = answer_ok kind reads s (length steps) (length owners) (length displays) (omega arith) room x (all_read kind reads s (counted h) i c.in_ok-heading.ensures.read passed.0 j (sym same ∙ passed.1) listed.0 (ap (λ m. flows_at k s (k * k) 0 m j) (sym passed.2) ∙ listed.1)) in
     record {
       found = found_ok X (record { counts = h.counts; start = h.start; board = b }) x answer (record {
         states = refl;
@@ -133,7 +127,7 @@ returns g c =
         flows = listed.2.flows;
         lockouts = listed.2.lockouts;
       });
-      steps = store_filled X (λ y. y.entries.steps) steps x c.fill.new.steps answer (filled_ok (λ e. e.steps) W steps c.fill.new.steps passed.0 j passed.1 c.fill.ensures.steps);
-      owners = store_filled X (λ y. y.entries.owners) owners x c.fill.new.owners answer (filled_ok (λ e. e.owners) W owners c.fill.new.owners passed.0 j passed.1 c.fill.ensures.owners);
-      displays = store_filled X (λ y. map cell y.entries.displays) displays x c.fill.new.displays answer (filled_ok (λ e. map cell e.displays) W displays c.fill.new.displays passed.0 j passed.1 c.fill.ensures.displays);
+      steps = store_filled X (λ y. y.entries.steps) steps x c.fill.new.steps answer (filled_ok (λ e. e.steps) V steps c.fill.new.steps passed.0 j passed.1 c.fill.ensures.steps);
+      owners = store_filled X (λ y. y.entries.owners) owners x c.fill.new.owners answer (filled_ok (λ e. e.owners) V owners c.fill.new.owners passed.0 j passed.1 c.fill.ensures.owners);
+      displays = store_filled X (λ y. map cell y.entries.displays) displays x c.fill.new.displays answer (filled_ok (λ e. map cell e.displays) V displays c.fill.new.displays passed.0 j passed.1 c.fill.ensures.displays);
     }
