@@ -1,8 +1,6 @@
 pub mod Agreement
 pub mod Answering
 pub mod Gathering
-pub mod Keeping
-pub mod Matching
 pub mod Ownership
 pub mod Passing
 pub mod Ranges

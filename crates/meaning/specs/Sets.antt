@@ -1,13 +1,9 @@
--- What a set of consoles says: whom of it a console may affect, and which list it stands for.
-use Rattle.std.specs.Prelude.{◌≡◌, ℕ, true, cond, List, ◌∷◌, nat_eq}
+-- Which list a set of consoles stands for.
+use Rattle.std.specs.Prelude.{◌≡◌, ℕ, cond, List, ◌∷◌, nat_eq}
 use Rattle.theory.specs.Flows.{Flow}
 use Rattle.policy.specs.Members.{holds}
 use Rattle.policy.specs.declared.members.Members.{Members}
 use Rattle.links.specs.Sequences.{some_of}
-
--- w may affect a console of the set
-abbrev pub AffectsOne : Flow → ℕ → Members → Type 0
-AffectsOne F w set = (x : ℕ) × (holds set x ≡ true) × (F w x ≡ true)
 
 -- the set holds the consoles of the list, and no other
 abbrev pub SetOf : List ℕ → Members → Type 0

@@ -1,17 +1,18 @@
 // IP, the intransitive purge: a command counts for a console where the commands after it can still carry it there.
-ghost use Rattle.std.specs.Prelude.{◌≡◌, ℕ, ◌<◌, ◌≤◌, List, length, Decides};
+ghost use Rattle.std.specs.Prelude.{◌≡◌, ℕ, ◌&&◌, List};
+ghost use Rattle.std.specs.List.{list_any, range_with_len};
 ghost use Rattle.policy.specs.Flows.{consoles_of, may_affect};
+ghost use Rattle.policy.specs.Members.{holds};
 ghost use Rattle.links.specs.Sources.{intransitive_purge};
 ghost use Rattle.links.specs.Three.{intransitive_purge_meaning};
-ghost use Rattle.meaning.specs.Asked.{most_compared, owner_in};
-ghost use Rattle.meaning.specs.Kept.{kept};
-ghost use Rattle.meaning.specs.Sets.{AffectsOne, SetOf, source_added};
+ghost use Rattle.meaning.specs.Sets.{SetOf, source_added};
 ghost use Rattle.links.proofs.Sourcing.{intransitive_purge_laws};
 
-use crate::kept::{Marks, same_kept};
+use crate::compared::Compared;
 use crate::meaning::Meaning;
 use crate::purge::Purge;
-use crate::range::{MOST_COMPARED, are_comparable, owner};
+use crate::purging::{Kept, Purging, same_remains};
+use crate::reach::Reach;
 use policy::flows::Flows;
 use policy::members::Members;
 
@@ -20,14 +21,9 @@ pub struct IntransitivePurge;
 
 // Whether `from` may affect one of the consoles of a set.
 fn affects_one(flows: &Flows, from: usize, consoles: Members) -> bool
-    ensures { Decides result (AffectsOne (may_affect flows.now) from consoles) }
+    ensures { result ≡ list_any (λ x. holds consoles x && may_affect flows.now from x) (range_with_len 0 (consoles_of flows.now)) }
 {
-    for console in 0..flows.consoles() {
-        if consoles.has(console) && flows.may_affect(from, console) {
-            return true;
-        }
-    }
-    false
+    (0..flows.consoles()).any(|console| consoles.has(console) && flows.may_affect(from, console))
 }
 
 // The sources with a command of `from` in front of what follows.
@@ -41,19 +37,23 @@ fn with_source(flows: &Flows, from: usize, sources: Members) -> Members
     }
 }
 
-// Marks the commands that what follows can carry to `console`. The sources grow from the back.
-fn carried(flows: &Flows, owners: &[u8], console: usize, sequence: &[u8]) -> Marks
-    requires { (length sequence.now ≤ most_compared) × (console < consoles_of flows.now) }
-    ensures { kept result sequence.now ≡ intransitive_purge (may_affect flows.now) (owner_in owners.now) console sequence.now }
-{
-    let mut marks = [false; MOST_COMPARED];
-    let mut sources = Members::none().with(console);
-    for i in (0..sequence.len()).rev() {
-        let from = owner(owners, sequence[i]);
-        sources = with_source(flows, from, sources);
-        marks[i] = sources.has(from);
+impl Purging for IntransitivePurge {
+    ghost purge = { intransitive_purge };
+
+    // From the back: the sources are the consoles from which what follows can carry a command on.
+    fn purged(reach: &Reach, console: usize, sequence: &Compared) -> Kept {
+        let mut kept = Kept::new();
+        let mut sources = Members::none().with(console);
+        for command in sequence.commands.iter().rev() {
+            let giver = reach.giver(*command);
+            sources = with_source(reach.flows, giver, sources);
+            if sources.has(giver) {
+                kept.push(*command);
+            }
+        }
+        kept.reverse();
+        kept
     }
-    marks
 }
 
 impl Meaning for IntransitivePurge {
@@ -69,12 +69,7 @@ impl Meaning for IntransitivePurge {
         left: &[u8],
         right: &[u8],
     ) -> bool {
-        if !are_comparable(flows, owners, console, left, right) {
-            return false;
-        }
-        let left_marks = carried(flows, owners, console, left);
-        let right_marks = carried(flows, owners, console, right);
-        same_kept(left, &left_marks, right, &right_marks)
+        same_remains::<IntransitivePurge>(&Reach { flows, owners }, console, left, right)
     }
 
     fn may_drop(&self, flows: &Flows, console: usize, dropped: usize) -> bool {

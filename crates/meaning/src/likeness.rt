@@ -1,25 +1,26 @@
 // Whether two sequences are alike for a console of a control, under the flows of a board.
-ghost use Rattle.std.specs.Prelude.{◌≡◌, ℕ, ◌<◌, slice_index};
+ghost use Rattle.std.specs.Prelude.{◌≡◌, map};
+ghost use Rattle.std.specs.List.{range_with_len};
 ghost use Rattle.theory.specs.Control.{owner_of};
-ghost use Rattle.policy.specs.Board.{flows_of, lockouts_of};
-ghost use Rattle.policy.specs.Flows.{consoles_of, may_affect};
-ghost use Rattle.policy.specs.Lockouts.{commands_of};
+ghost use Rattle.policy.specs.Board.{value_of};
 ghost use Rattle.meaning.specs.Likeness.{likeness_answer};
 
+use crate::compared::MOST_COMPARED;
 use crate::meaning::Meaning;
-use crate::range::MOST_COMPARED;
+use arrayvec::ArrayVec;
 use control::control::Control;
-use control::reading::all_below;
+use control::replay::{check_commands, check_counts};
 use policy::board::Board;
 use policy::refusal::Refusal;
+use theory::limits::MOST_COMMANDS;
 
-// The console of each command of a control, which has at most 24.
-fn owners_of<C: Control>(control: &C) -> [u8; 24]
-    ensures { (c : ℕ) → c < (C.Control.value control.now).commands → slice_index result c ≡ owner_of (C.Control.value control.now) c }
+// The console of each command of a control.
+fn owners_of<C: Control>(control: &C) -> ArrayVec<u8, MOST_COMMANDS>
+    ensures { result.items ≡ map (owner_of (C.Control.value control.now)) (range_with_len 0 (C.Control.value control.now).commands) }
 {
-    let mut owners = [0; 24];
+    let mut owners = ArrayVec::new();
     for command in 0..control.commands() {
-        owners[command] = control.owner(command) as u8;
+        owners.push(control.owner(command) as u8);
     }
     owners
 }
@@ -34,23 +35,17 @@ pub fn likeness<C: Control, M: Meaning>(
     left: &[u8],
     right: &[u8],
 ) -> Result<bool, Refusal>
-    ensures { result ≡ likeness_answer (M.Meaning.meaning meaning.now) (consoles_of (flows_of board.now)) (commands_of (lockouts_of board.now)) (may_affect (flows_of board.now)) (C.Control.value control.now) console left.now right.now }
+    ensures { result ≡ likeness_answer (M.Meaning.meaning meaning.now) (value_of board.now) (C.Control.value control.now) console left.now right.now }
 {
-    let flows = board.flows();
-    let consoles = flows.consoles();
-    let commands = board.lockouts().commands();
-    if console >= consoles {
+    if console >= board.flows().consoles() {
         return Err(Refusal::NoSuchConsole);
     }
-    if !all_below(commands, left) || !all_below(commands, right) {
-        return Err(Refusal::NoSuchCommand);
-    }
-    if control.consoles() != consoles || control.commands() != commands {
-        return Err(Refusal::CountsDiffer);
-    }
+    check_commands(board.lockouts(), left)?;
+    check_commands(board.lockouts(), right)?;
+    check_counts(board, control)?;
     if left.len() > MOST_COMPARED || right.len() > MOST_COMPARED {
         return Err(Refusal::SequenceTooLong);
     }
     let owners = owners_of(control);
-    Ok(meaning.alike(flows, &owners[0..commands], console, left, right))
+    Ok(meaning.alike(board.flows(), &owners, console, left, right))
 }

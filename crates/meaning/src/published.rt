@@ -1,5 +1,6 @@
 // One of the three published meanings as a value, so that a list can mix them.
-ghost use Rattle.meaning.specs.Published.{published_meaning};
+ghost use Rattle.std.specs.Prelude.{Some, codes};
+ghost use Rattle.meaning.specs.Published.{published_meaning, meaning_name, NameRead};
 ghost use Rattle.links.proofs.Purging.{purge_laws};
 ghost use Rattle.links.proofs.Sourcing.{intransitive_purge_laws};
 ghost use Rattle.links.proofs.Transmitting.{transmitted_laws};
@@ -10,6 +11,9 @@ use crate::meaning::Meaning;
 use crate::purge::Purge;
 use crate::transmitted::TransmittedActions;
 use policy::flows::Flows;
+use std::error::Error;
+use std::fmt;
+use std::str::FromStr;
 
 #[derive(Clone, Copy, PartialEq, Eq, Debug)]
 pub enum Published {
@@ -18,6 +22,49 @@ pub enum Published {
     Ta,
 }
 
+// The name under which a meaning is asked for.
+impl fmt::Display for Published {
+    ghost output = { λ meaning. Some (meaning_name meaning) };
+
+    fn fmt<W: fmt::Write>(&self, f: &mut fmt::Formatter<W>) -> fmt::Result {
+        f.write_str(match self {
+            Published::P => "P",
+            Published::Ip => "IP",
+            Published::Ta => "TA",
+        })
+    }
+}
+
+// No meaning has the name that was asked for.
+#[derive(Clone, Copy, PartialEq, Eq, Debug)]
+pub struct NoSuchMeaning;
+
+impl fmt::Display for NoSuchMeaning {
+    ghost output = { λ _. Some (codes "a meaning is P, IP or TA") };
+
+    fn fmt<W: fmt::Write>(&self, f: &mut fmt::Formatter<W>) -> fmt::Result {
+        f.write_str("a meaning is P, IP or TA")
+    }
+}
+
+impl Error for NoSuchMeaning {}
+
+impl FromStr for Published {
+    type Err = NoSuchMeaning;
+
+    ghost from_str_gives = { NameRead };
+
+    fn from_str(text: &str) -> Result<Published, NoSuchMeaning> {
+        match text {
+            "P" => Ok(Published::P),
+            "IP" => Ok(Published::Ip),
+            "TA" => Ok(Published::Ta),
+            _ => Err(NoSuchMeaning),
+        }
+    }
+}
+
+// By a match: a list of calls mixes meanings, an impl by a macro of ours and a `dyn` value handed out are refused.
 impl Meaning for Published {
     ghost meaning = { published_meaning };
 

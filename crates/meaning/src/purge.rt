@@ -1,30 +1,30 @@
 // P, the plain purge: a command counts for a console where its own console may affect that one.
-ghost use Rattle.std.specs.Prelude.{◌≡◌, ◌≤◌, length};
-ghost use Rattle.policy.specs.Flows.{may_affect};
 ghost use Rattle.links.specs.Purge.{purge};
 ghost use Rattle.links.specs.Three.{purge_meaning};
-ghost use Rattle.meaning.specs.Asked.{most_compared, owner_in};
-ghost use Rattle.meaning.specs.Kept.{kept};
 ghost use Rattle.links.proofs.Purging.{purge_laws};
 
-use crate::kept::{Marks, same_kept};
+use crate::compared::Compared;
 use crate::meaning::Meaning;
-use crate::range::{MOST_COMPARED, are_comparable, owner};
+use crate::purging::{Kept, Purging, same_remains};
+use crate::range::all_there;
+use crate::reach::Reach;
 use policy::flows::Flows;
 
 #[derive(Clone, Copy)]
 pub struct Purge;
 
-// Marks the commands whose consoles may affect `console`.
-fn heard(flows: &Flows, owners: &[u8], console: usize, sequence: &[u8]) -> Marks
-    requires { length sequence.now ≤ most_compared }
-    ensures { kept result sequence.now ≡ purge (may_affect flows.now) (owner_in owners.now) console sequence.now }
-{
-    let mut marks = [false; MOST_COMPARED];
-    for (i, command) in sequence.iter().enumerate() {
-        marks[i] = flows.may_affect(owner(owners, *command), console);
+impl Purging for Purge {
+    ghost purge = { purge };
+
+    fn purged(reach: &Reach, console: usize, sequence: &Compared) -> Kept {
+        let mut kept = Kept::new();
+        for command in sequence.commands {
+            if reach.reaches(*command, console) {
+                kept.push(*command);
+            }
+        }
+        kept
     }
-    marks
 }
 
 impl Meaning for Purge {
@@ -40,17 +40,11 @@ impl Meaning for Purge {
         left: &[u8],
         right: &[u8],
     ) -> bool {
-        if !are_comparable(flows, owners, console, left, right) {
-            return false;
-        }
-        let left_marks = heard(flows, owners, console, left);
-        let right_marks = heard(flows, owners, console, right);
-        same_kept(left, &left_marks, right, &right_marks)
+        same_remains::<Purge>(&Reach { flows, owners }, console, left, right)
     }
 
     fn may_drop(&self, flows: &Flows, console: usize, dropped: usize) -> bool {
-        let consoles = flows.consoles();
-        console < consoles && dropped < consoles && !flows.may_affect(dropped, console)
+        all_there(flows, &[console, dropped]) && !flows.may_affect(dropped, console)
     }
 
     fn may_follow_drop(
@@ -60,8 +54,7 @@ impl Meaning for Purge {
         dropped: usize,
         follower: usize,
     ) -> bool {
-        let consoles = flows.consoles();
-        console < consoles && dropped < consoles && follower < consoles
+        all_there(flows, &[console, dropped, follower])
     }
 
     fn may_exchange(&self, _flows: &Flows, _console: usize, _first: usize, _second: usize) -> bool {

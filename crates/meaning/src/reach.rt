@@ -1,0 +1,55 @@
+// Who gives each command, and which consoles a command reaches.
+ghost use Rattle.std.specs.Prelude.{◌≡◌, ◌<◌, is_some, IfSome};
+ghost use Rattle.policy.specs.Flows.{consoles_of};
+ghost use Rattle.meaning.specs.Compared.{both_comparable};
+ghost use Rattle.meaning.specs.Reach.{flow_of, giver_of};
+
+use crate::compared::Compared;
+use control::reading::all_below;
+use policy::flows::Flows;
+
+// Command c is given by console `owners[c]`.
+#[derive(Clone, Copy)]
+pub(crate) struct Reach<'a> {
+    pub(crate) flows: &'a Flows,
+    pub(crate) owners: &'a [u8],
+}
+
+impl<'a> Reach<'a> {
+    // The console of a command; a command that there is not is read as one of console 0.
+    pub(crate) fn giver(&self, command: u8) -> usize
+        ensures { result ≡ giver_of self.now command }
+    {
+        match self.owners.get(usize::from(command)) {
+            Some(console) => usize::from(*console),
+            None => 0,
+        }
+    }
+
+    // Whether the giver of a command may affect `console`.
+    pub(crate) fn reaches(&self, command: u8, console: usize) -> bool
+        ensures { result ≡ flow_of self.now (giver_of self.now command) console }
+    {
+        self.flows.may_affect(self.giver(command), console)
+    }
+
+    // Both sequences, where console, owners and commands are all there and neither is too long.
+    pub(crate) fn compared(
+        &self,
+        console: usize,
+        left: &'a [u8],
+        right: &'a [u8],
+    ) -> Option<(Compared<'a>, Compared<'a>)>
+        ensures in_range { is_some result ≡ both_comparable self.now console left.now right.now }
+        ensures there { IfSome result (λ _. console < consoles_of self.now.flows.now) }
+        ensures whole { IfSome result (λ both. (both.0.commands.now ≡ left.now) × (both.1.commands.now ≡ right.now)) }
+    {
+        let consoles = self.flows.consoles();
+        if console >= consoles || !all_below(consoles, self.owners) {
+            return None;
+        }
+        let left = Compared::new(self.owners.len(), left)?;
+        let right = Compared::new(self.owners.len(), right)?;
+        Some((left, right))
+    }
+}
