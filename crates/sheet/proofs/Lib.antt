@@ -11,7 +11,6 @@ pub mod ExactSheets
 pub mod Filling
 pub mod Going
 pub mod Items
-pub mod Leads
 pub mod Listing
 pub mod Outcome
 pub mod Passed

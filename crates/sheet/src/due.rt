@@ -27,7 +27,7 @@ pub enum Due {
 }
 
 impl Due {
-    // The block of the row, counted from 1.
+    // The block of the row, counted from 1: a number, since a refusal tells the block as one.
     pub(crate) fn block(self) -> usize
         ensures { result ≡ number_of self }
     {

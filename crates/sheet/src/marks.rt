@@ -179,11 +179,13 @@ impl<'a> Cursor<'a> {
         ensures read { place_behind result self.new.at ≡ names_at (map (λ x. x.now) due.now) self.old.sheet.now self.old.at }
         ensures sheet { self.new.sheet ≡ self.old.sheet }
     {
-        for (i, word) in due.iter().enumerate() {
-            let then = if i + 1 < due.len() { b' ' } else { b'\n' };
-            self.name(word, then)?;
+        let Some((last, before)) = due.split_last() else {
+            return Ok(());
+        };
+        for word in before {
+            self.name(word, b' ')?;
         }
-        Ok(())
+        self.name(last, b'\n')
     }
 
     // The numbers that a row begins with.
