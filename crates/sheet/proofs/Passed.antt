@@ -5,7 +5,7 @@ use Rattle.sheet.specs.Faults.{on}
 use Rattle.sheet.specs.Reading.{Entries, with_value, no_entries, plan_of, rows_at}
 use Rattle.sheet.specs.Due.{Within, rows_left}
 use Rattle.sheet.specs.Entries.{counted, value_of}
-use Rattle.sheet.specs.Passes.{Ready, Stepped, Faulted, left_at, reached, line_behind, started}
+use Rattle.sheet.specs.Passes.{Ready, Stepped, Faulted, left_at, line_behind, started}
 use Rattle.sheet.specs.declared.due.Due.{Due}
 use Rattle.sheet.specs.declared.fault.SheetFault.{SheetFault}
 use Rattle.sheet.specs.declared.marks.Cursor.{Cursor}
@@ -13,16 +13,6 @@ use Rattle.sheet.specs.declared.progress.Progress.{Progress}
 use Rattle.sheet.specs.declared.heading.Heading.{Heading}
 use Rattle.sheet.specs.declared.rows.Entry.{Entry}
 use Rattle.sheet.proofs.Dues.{all_due, few_rows}
-
--- what is put in front does not change the place that is reached
-same_place : {D : Type 0} (R : Result (Entries D × ℕ) SheetFault) (f : Entries D → Entries D) → on {A = Entries D × ℕ} {B = ℕ} (on {B = Entries D × ℕ} R (λ z. Ok (f z.0, z.1))) (λ z. Ok z.1) ≡ on {B = ℕ} R (λ z. Ok z.1)
-same_place (Ok z) f = refl
-same_place (Err g) f = refl
-
--- a number beside the place that is reached
-beside : {D : Type 0} (n : ℕ) (R : Result (Entries D × ℕ) SheetFault) → on {B = ℕ × ℕ} R (λ z. Ok (n, z.1)) ≡ on (on {B = ℕ} R (λ z. Ok z.1)) (λ j. Ok (n, j))
-beside n (Ok z) = refl
-beside n (Err g) = refl
 
 module _ {D : Type 0} (reads : List ℕ → Result D Cause) (h : Heading) where
   pub pass_ready : (w : Within h.counts) (a : Cursor) → Ready h.counts (started a)
@@ -37,19 +27,8 @@ module _ {D : Type 0} (reads : List ℕ → Result D Cause) (h : Heading) where
   pub pass_less : (p q : Progress) (d : Due) (v : Entry D) → Stepped reads h p q d v → length (rows_left h.counts q.due) < length (rows_left h.counts p.due)
   pass_less p q d v t = omega (arith, t.lines, t.behind)
 
-  pub pass_more : (p q : Progress) (d : Due) (v : Entry D) → Stepped reads h p q d v → reached reads h p ≡ reached reads h q
-  pass_more p q d v t = ap (λ R. on {B = ℕ} R (λ z. Ok z.1)) t.more ∙ same_place (left_at reads h q) (with_value (value_of v))
-
   pub pass_end : (p : Progress) → p.due ≡ None → left_at reads h p ≡ Ok (no_entries, p.cursor.at)
   pass_end p e = ap (λ d. rows_at reads (counted h) p.cursor.sheet.now (rows_left h.counts d) p.line p.cursor.at) e
 
   pub pass_last : (p : Progress) → p.due ≡ None → line_behind h.counts p ≡ p.line
   pass_last p e = ap (λ d. p.line + length (rows_left h.counts d)) e ∙ omega arith
-
-  -- W is what all rows say
-  module _ (W : Result (Entries D × ℕ) SheetFault) (n : ℕ) (p : Progress) (so_far : on {B = ℕ} W (λ z. Ok z.1) ≡ reached reads h p) where
-    pub pass_done : p.due ≡ None → line_behind h.counts p ≡ n → Ok (p.line, p.cursor.at) ≡ on {B = ℕ × ℕ} W (λ z. Ok (n, z.1))
-    pass_done e lines = ap (λ m. Ok (m, p.cursor.at)) (sym (pass_last p e) ∙ lines) ∙ sym (beside n W ∙ ap (λ R. on R (λ j. Ok (n, j))) (so_far ∙ ap (λ R. on {B = ℕ} R (λ z. Ok z.1)) (pass_end p e)))
-
-    pub pass_fault : (f : SheetFault) → Faulted reads h p f → Err f ≡ on {B = ℕ × ℕ} W (λ z. Ok (n, z.1))
-    pass_fault f e = sym (beside n W ∙ ap (λ R. on R (λ j. Ok (n, j))) (so_far ∙ ap (λ R. on {B = ℕ} R (λ z. Ok z.1)) e))

@@ -34,10 +34,6 @@ module _ {D : Type 0} (reads : List ℕ → Result D Cause) (h : Heading) where
   abbrev pub left_at : Progress → Result (Entries D × ℕ) SheetFault
   left_at p = rows_at reads (counted h) p.cursor.sheet.now (rows_left h.counts p.due) p.line p.cursor.at
 
-  -- the same without the entries
-  abbrev pub reached : Progress → Result ℕ SheetFault
-  reached p = on (left_at p) (λ z. Ok z.1)
-
   -- row d was read as v, from p to q
   pub record Stepped (p q : Progress) (d : Due) (v : Entry D) : Type 0 where
     pub was : p.due ≡ Some d

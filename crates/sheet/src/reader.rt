@@ -1,11 +1,12 @@
-// Reading a sheet: once over the whole of it, and then again to fill the tables.
-ghost use Rattle.std.specs.Prelude.{◌≡◌, ◌+◌, true, map, length, IfOk, Ok};
+// Reading a sheet: its rows into tables of the reader's own, which are copied to the store once the
+// whole sheet is known to be good.
+ghost use Rattle.std.specs.Prelude.{◌≡◌, ◌+◌, ◌*◌, ◌≤◌, true, map, length, take, Ok};
 ghost use Rattle.control.specs.Tables.{store_suffices};
-ghost use Rattle.sheet.specs.Calls.{FoundAs, read_into, store_after};
+ghost use Rattle.sheet.specs.Calls.{FoundAs, overwritten, read_into, store_after};
 ghost use Rattle.sheet.specs.Faults.{on, behind};
 ghost use Rattle.sheet.specs.Reading.{plan_of};
 ghost use Rattle.sheet.specs.Entries.{counted, headed, first_at, rows_behind};
-ghost use Rattle.sheet.specs.Stores.{Holds, steps_with, owners_with, displays_with, FilledBy};
+ghost use Rattle.sheet.specs.Stores.{Holds, steps_with, owners_with, displays_with, FrontBy};
 
 use crate::due::Due;
 use crate::fault::SheetFault;
@@ -30,17 +31,6 @@ fn first_block<D: DisplayKind>(cursor: &mut Cursor) -> Result<Heading, SheetFaul
     rows::counts_row::<D>(cursor).map_err(|fault| fault.on_line(2).in_block(1))
 }
 
-// Reads the rows before the flows and keeps nothing of them; the line behind them.
-fn pass_rows<D: DisplayKind>(cursor: &mut Cursor, heading: &Heading) -> Result<usize, SheetFault>
-    ensures read { behind result cursor.new.at ≡ on (rows_behind D.DisplayKind.reads heading.now cursor.old.sheet.now cursor.old.at) (λ z. Ok (3 + length (plan_of (counted heading.now)), z.1)) }
-    ensures sheet { cursor.new.sheet ≡ cursor.old.sheet }
-{
-    let mut progress = Progress::start(*cursor);
-    while let Some(_) = progress.next::<D>(heading)? {}
-    cursor.at = progress.cursor.at;
-    Ok(progress.line)
-}
-
 // Writes what a row says where it belongs.
 fn keep<D: DisplayKind>(
     due: Due,
@@ -63,29 +53,39 @@ fn keep<D: DisplayKind>(
     }
 }
 
-// Reads the rows before the flows again, and keeps what they say.
+// Reads the rows before the flows and keeps what they say; the line behind them.
 fn fill<D: DisplayKind>(
-    cursor: &Cursor,
+    cursor: &mut Cursor,
     heading: &Heading,
     steps: &mut [u8],
     owners: &mut [u8],
     displays: &mut [D::Cell],
-) -> Result<(), SheetFault>
+) -> Result<usize, SheetFault>
     requires { store_suffices (length steps.old) (length owners.old) (length displays.old) ≡ true }
-    ensures read { result ≡ on (rows_behind D.DisplayKind.reads heading.now cursor.now.sheet.now cursor.now.at) (λ _. Ok tt) }
-    ensures steps { FilledBy (λ e. e.steps) (rows_behind D.DisplayKind.reads heading.now cursor.now.sheet.now cursor.now.at) steps.old steps.new }
-    ensures owners { FilledBy (λ e. e.owners) (rows_behind D.DisplayKind.reads heading.now cursor.now.sheet.now cursor.now.at) owners.old owners.new }
-    ensures displays { FilledBy (λ e. map D.DisplayKind.cell e.displays) (rows_behind D.DisplayKind.reads heading.now cursor.now.sheet.now cursor.now.at) displays.old displays.new }
+    ensures read { behind result cursor.new.at ≡ on (rows_behind D.DisplayKind.reads heading.now cursor.old.sheet.now cursor.old.at) (λ z. Ok (3 + length (plan_of (counted heading.now)), z.1)) }
+    ensures sheet { cursor.new.sheet ≡ cursor.old.sheet }
+    ensures steps { FrontBy (λ e. e.steps) (rows_behind D.DisplayKind.reads heading.now cursor.old.sheet.now cursor.old.at) (heading.now.counts.states * heading.now.counts.commands) steps.new }
+    ensures owners { FrontBy (λ e. e.owners) (rows_behind D.DisplayKind.reads heading.now cursor.old.sheet.now cursor.old.at) heading.now.counts.commands owners.new }
+    ensures displays { FrontBy (λ e. map D.DisplayKind.cell e.displays) (rows_behind D.DisplayKind.reads heading.now cursor.old.sheet.now cursor.old.at) (heading.now.counts.states * heading.now.counts.consoles) displays.new }
+    ensures lengths { (length steps.new ≡ length steps.old) × (length owners.new ≡ length owners.old) × (length displays.new ≡ length displays.old) }
 {
     let mut progress = Progress::start(*cursor);
     while let Some((due, entry)) = progress.next::<D>(heading)? {
         keep(due, entry, steps, owners, displays);
     }
-    Ok(())
+    cursor.at = progress.cursor.at;
+    Ok(progress.line)
 }
 
-// What the sheet says: its counts, its start and its flows, and the tables in the store. The
-// store is written once the whole sheet is known to be good.
+// Copies the first entries to the front of a store.
+fn copy_front<T: Copy>(entries: &[T], many: usize, store: &mut [T])
+    requires { (many ≤ length entries.now) × (many ≤ length store.old) }
+    ensures { store.new ≡ overwritten (take many entries.now) store.old }
+{
+    store[..many].copy_from_slice(&entries[..many]);
+}
+
+// What the sheet says: its counts, its start and its flows, and the tables in the store.
 pub fn read<D: DisplayKind>(
     sheet: &[u8],
     steps: &mut [u8],
@@ -105,12 +105,23 @@ pub fn read<D: DisplayKind>(
     }
     let mut cursor = Cursor { sheet, at: 0 };
     let heading = first_block::<D>(&mut cursor)?;
-    let first = cursor;
-    let line = pass_rows::<D>(&mut cursor, &heading)?;
+    let counts = heading.counts;
+    let mut read_steps = [0; STEPS];
+    let mut read_owners = [0; OWNERS];
+    let mut read_displays = [D::zero().to_cell(); DISPLAYS];
+    let line = fill::<D>(
+        &mut cursor,
+        &heading,
+        &mut read_steps,
+        &mut read_owners,
+        &mut read_displays,
+    )?;
     let board = all_flows(&mut cursor, line, &heading)?;
-    fill::<D>(&first, &heading, steps, owners, displays)?;
+    copy_front(&read_steps, counts.states * counts.commands, steps);
+    copy_front(&read_owners, counts.commands, owners);
+    copy_front(&read_displays, counts.states * counts.consoles, displays);
     Ok(Found {
-        counts: heading.counts,
+        counts,
         start: heading.start,
         board,
     })

@@ -1,4 +1,4 @@
--- Each row that is read is kept at its place.
+-- Each row that is read is kept at its place, and reaches as far as the rows behind it.
 use Rattle.std.proofs.Common.{length, sym, refl, subst}
 use Rattle.std.proofs.lemmas.Option.{MatchOption-at_some}
 use Rattle.sheet.specs.Reading.{plan_of, rows_at}
