@@ -1,5 +1,5 @@
 // What the programs print, made as text whose contracts say what it is.
-#![tactic(auto)]
+#![tactic(auto, using(crate::proofs::Appending::texts))]
 
 pub mod comparison;
 pub mod lines;
