@@ -1,9 +1,8 @@
 -- What a question is answered on the board and the control that a sheet says.
 use Rattle.std.specs.Prelude.{◌≡◌, ℕ, Bool, false, List, Ok, Err, Some, Result, pos, MatchBool}
 use Rattle.display.specs.Codes.{code_kind, code_mark, code_reads, code_stored}
-use Rattle.display.specs.Readings.{reading_kind, reading_mark, reading_reads, reading_stored}
+use Rattle.display.specs.Readings.{Reading, reading_kind, reading_mark, reading_reads, reading_stored}
 use Rattle.display.specs.declared.code.Code.{Code}
-use Rattle.display.specs.declared.reading.Reading.{Reading}
 use Rattle.policy.specs.Refusals.{told_of}
 use Rattle.policy.specs.declared.refusal.Refusal.{Refusal}
 use Rattle.theory.specs.Boards.{BoardValue}

@@ -4,7 +4,7 @@ ghost use Rattle.sheet.specs.Calls.{read_answer};
 ghost use Rattle.receiver.specs.Answers.{AnsweredAs, Asked};
 
 use crate::question::Question;
-use control::table::{Store, Table};
+use control::table::{DISPLAYS, OWNERS, STEPS, Store, Table};
 use display::code::Code;
 use display::kind::DisplayKind;
 use display::reading::Reading;
@@ -12,12 +12,6 @@ use policy::refusal::Refusal;
 use sheet::exact::read_is_written;
 use sheet::kinds::names_readings;
 use sheet::reader::read;
-use theory::limits::{MOST_COMMANDS, MOST_CONSOLES, MOST_STATES};
-
-// The largest table that a sheet can say.
-const STEPS: usize = MOST_STATES * MOST_COMMANDS;
-
-const DISPLAYS: usize = MOST_STATES * MOST_CONSOLES;
 
 // The sheet's displays are of one kind.
 fn ask_as<D: DisplayKind, Q: Question>(
@@ -30,7 +24,7 @@ fn ask_as<D: DisplayKind, Q: Question>(
 {
     read_is_written::<D>();
     let mut steps = [0; STEPS];
-    let mut owners = [0; MOST_COMMANDS];
+    let mut owners = [0; OWNERS];
     let found = read::<D>(sheet, &mut steps, &mut owners, displays)?;
     let store = Store {
         steps: &steps,
