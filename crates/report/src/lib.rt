@@ -5,5 +5,7 @@ pub mod comparison;
 pub mod lines;
 pub mod readback;
 pub mod refusals;
+#[cfg(test)]
+mod tests;
 pub mod transcript;
 pub mod trouble;
