@@ -3,7 +3,6 @@ use Rattle.std.specs.Prelude.{◌≡◌, ℕ, Bool, false, List, Ok, Err, Some, 
 use Rattle.display.specs.Codes.{code_kind, code_mark, code_reads, code_stored}
 use Rattle.display.specs.Readings.{Reading, reading_kind, reading_mark, reading_reads, reading_stored}
 use Rattle.display.specs.declared.code.Code.{Code}
-use Rattle.policy.specs.Refusals.{told_of}
 use Rattle.policy.specs.declared.refusal.Refusal.{Refusal}
 use Rattle.theory.specs.Boards.{BoardValue}
 use Rattle.theory.specs.Control.{ControlValue}
@@ -36,7 +35,7 @@ readings_said sheet = read_answer reading_kind reading_reads 2400 24 1200 sheet
 -- a sheet is one of readings where it is refused as one of codes, and names readings there
 abbrev pub are_readings : List ℕ → Result (Sheet Code) Refusal → Bool
 are_readings sheet (Ok x) = false
-are_readings sheet (Err e) = readings_named sheet (told_of e)
+are_readings sheet (Err e) = readings_named sheet e
 
 -- the answer on what a sheet says, as the kind of display that it names
 abbrev pub Asked : {A : Type 0} → (BoardValue → (D : Type 0) → (D → List ℕ) → ControlValue D → A → Type 0) → List ℕ → Result A Refusal → Type 0
