@@ -1,8 +1,9 @@
 // Tables and pairs of controls: limits, numbers out of range, and what fits side by side.
 use crate::latch;
+use crate::store::Codes;
 use control::control::Control;
 use control::side_by_side::{SideBySide, check_fit};
-use control::table::{Counts, Store, Table};
+use control::table::{Counts, DISPLAYS, OWNERS, STEPS, Store, Table};
 use display::code::Code;
 use policy::refusal::Refusal;
 use std::test::Fail;
@@ -17,35 +18,26 @@ fn counts(states: usize) -> Counts {
 
 #[test]
 fn counts_out_of_range_are_read_as_one(rt: HostRuntime) -> Result<(), Fail> {
-    let steps = [9; 2400];
-    let owners = [9; 24];
-    let shown = [7u16; 1200];
-    let store = Store {
-        steps: &steps,
-        owners: &owners,
-        displays: &shown,
+    let store = Codes {
+        steps: [9; STEPS],
+        owners: [9; OWNERS],
+        displays: [7; DISPLAYS],
     };
-    let largest: Table<'_, Code> = Table::new(
-        Counts {
-            states: 100,
-            commands: 24,
-            consoles: 12,
-        },
-        99,
-        store,
-    )?;
+    let most = Counts {
+        states: 100,
+        commands: 24,
+        consoles: 12,
+    };
+    let largest = store.table(most, 99)?;
     assert_eq!(rt; largest.states(), 100);
     assert_eq!(rt; largest.start(), 99);
     assert_eq!(rt; largest.next(99, 23), 9);
-    let beyond: Table<'_, Code> = Table::new(
-        Counts {
-            states: 101,
-            commands: 25,
-            consoles: 13,
-        },
-        99,
-        store,
-    )?;
+    let too_many = Counts {
+        states: 101,
+        commands: 25,
+        consoles: 13,
+    };
+    let beyond = store.table(too_many, 99)?;
     assert_eq!(rt; beyond.states(), 1);
     assert_eq!(rt; beyond.commands(), 1);
     assert_eq!(rt; beyond.consoles(), 1);
@@ -57,37 +49,22 @@ fn counts_out_of_range_are_read_as_one(rt: HostRuntime) -> Result<(), Fail> {
 
 #[test]
 fn a_store_must_have_room_for_every_table(rt: HostRuntime) {
-    let steps = [0; 2400];
-    let owners = [0; 24];
-    let shown = [0u16; 1200];
+    let store = Codes::blank();
     let short = Store {
-        steps: &steps[0..2399],
-        owners: &owners,
-        displays: &shown,
+        steps: &store.steps[0..2399],
+        owners: &store.owners,
+        displays: &store.displays,
     };
     let refused: Result<Table<'_, Code>, Refusal> = Table::new(counts(3), 0, short);
     assert!(rt; refused.is_err());
-    let enough = Store {
-        steps: &steps,
-        owners: &owners,
-        displays: &shown,
-    };
-    let made: Result<Table<'_, Code>, Refusal> = Table::new(counts(3), 0, enough);
-    assert!(rt; made.is_ok());
+    assert!(rt; store.table(counts(3), 0).is_ok());
 }
 
 #[test]
 fn ten_states_fit_beside_ten_and_eleven_do_not(rt: HostRuntime) -> Result<(), Fail> {
-    let steps = [0; 2400];
-    let owners = [0; 24];
-    let shown = [0u16; 1200];
-    let store = Store {
-        steps: &steps,
-        owners: &owners,
-        displays: &shown,
-    };
-    let ten: Table<'_, Code> = Table::new(counts(10), 9, store)?;
-    let eleven: Table<'_, Code> = Table::new(counts(11), 10, store)?;
+    let store = Codes::blank();
+    let ten = store.table(counts(10), 9)?;
+    let eleven = store.table(counts(11), 10)?;
     assert_eq!(rt; check_fit(&ten, &ten), Ok(()));
     assert_eq!(rt; check_fit(&eleven, &ten), Err(Refusal::DoesNotFit));
     let pair = SideBySide {
@@ -108,15 +85,8 @@ fn ten_states_fit_beside_ten_and_eleven_do_not(rt: HostRuntime) -> Result<(), Fa
 
 #[test]
 fn a_pair_of_pairs_moves_each_side_by_its_own_commands(rt: HostRuntime) -> Result<(), Fail> {
-    let steps = latch::steps();
-    let owners = latch::owners();
-    let shown = [0u16; 1200];
-    let store = Store {
-        steps: &steps,
-        owners: &owners,
-        displays: &shown,
-    };
-    let latch: Table<'_, Code> = Table::new(latch::COUNTS, 0, store)?;
+    let store = latch::store();
+    let latch = store.table(latch::COUNTS, 0)?;
     let pair = SideBySide {
         left: latch,
         right: latch,

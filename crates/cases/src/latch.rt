@@ -1,7 +1,7 @@
 // The latch: console 0 arms it, console 1 fires it once armed, console 2 watches.
+use crate::store::Codes;
 use control::replay::replay;
-use control::table::{Counts, Store, Table};
-use display::code::Code;
+use control::table::{Counts, DISPLAYS, Store, Table};
 use display::reading::Reading;
 use policy::board::Board;
 use policy::refusal::Refusal;
@@ -13,34 +13,23 @@ pub const COUNTS: Counts = Counts {
     consoles: 3,
 };
 
-pub fn steps() -> [u8; 2400] {
-    let mut steps = [0; 2400];
-    steps[0] = 1;
-    steps[2] = 1;
-    steps[3] = 2;
-    steps[4] = 2;
-    steps[5] = 2;
-    steps
-}
-
-pub fn owners() -> [u8; 24] {
-    let mut owners = [0; 24];
-    owners[1] = 1;
-    owners
+// The latch's steps and owners; console 2 shows 1 once it has fired.
+pub fn store() -> Codes {
+    let mut store = Codes::blank();
+    store.steps[0] = 1;
+    store.steps[2] = 1;
+    store.steps[3] = 2;
+    store.steps[4] = 2;
+    store.steps[5] = 2;
+    store.owners[1] = 1;
+    store.displays[8] = 1;
+    store
 }
 
 #[test]
 fn armed_then_fired_reaches_the_last_state_with_codes(rt: HostRuntime) -> Result<(), Fail> {
-    let mut shown = [0u16; 1200];
-    shown[8] = 1;
-    let steps = steps();
-    let owners = owners();
-    let store = Store {
-        steps: &steps,
-        owners: &owners,
-        displays: &shown,
-    };
-    let table: Table<'_, Code> = Table::new(COUNTS, 0, store)?;
+    let store = store();
+    let table = store.table(COUNTS, 0)?;
     let board = Board::bare(3, 2)?;
     assert_eq!(rt; replay(&board, &table, &[0, 1]), Ok(2));
     assert_eq!(rt; replay(&board, &table, &[1, 0]), Ok(1));
@@ -50,13 +39,12 @@ fn armed_then_fired_reaches_the_last_state_with_codes(rt: HostRuntime) -> Result
 
 #[test]
 fn armed_then_fired_reaches_the_last_state_with_readings(rt: HostRuntime) -> Result<(), Fail> {
-    let mut shown = [None; 1200];
+    let mut shown = [None; DISPLAYS];
     shown[8] = Some(215i16);
-    let steps = steps();
-    let owners = owners();
+    let codes = store();
     let store = Store {
-        steps: &steps,
-        owners: &owners,
+        steps: &codes.steps,
+        owners: &codes.owners,
         displays: &shown,
     };
     let table: Table<'_, Reading> = Table::new(COUNTS, 0, store)?;
@@ -68,15 +56,8 @@ fn armed_then_fired_reaches_the_last_state_with_readings(rt: HostRuntime) -> Res
 
 #[test]
 fn a_locked_command_moves_nothing(rt: HostRuntime) -> Result<(), Fail> {
-    let shown = [0u16; 1200];
-    let steps = steps();
-    let owners = owners();
-    let store = Store {
-        steps: &steps,
-        owners: &owners,
-        displays: &shown,
-    };
-    let table: Table<'_, Code> = Table::new(COUNTS, 0, store)?;
+    let store = store();
+    let table = store.table(COUNTS, 0)?;
     let mut board = Board::bare(3, 2)?;
     board.lock(1)?;
     assert_eq!(rt; replay(&board, &table, &[0, 1, 1]), Ok(1));
@@ -87,15 +68,8 @@ fn a_locked_command_moves_nothing(rt: HostRuntime) -> Result<(), Fail> {
 
 #[test]
 fn no_such_command_is_told_before_differing_counts(rt: HostRuntime) -> Result<(), Fail> {
-    let shown = [0u16; 1200];
-    let steps = steps();
-    let owners = owners();
-    let store = Store {
-        steps: &steps,
-        owners: &owners,
-        displays: &shown,
-    };
-    let table: Table<'_, Code> = Table::new(COUNTS, 0, store)?;
+    let store = store();
+    let table = store.table(COUNTS, 0)?;
     let board = Board::bare(4, 2)?;
     assert_eq!(rt;
         replay(&board, &table, &[0, 2]),

@@ -11,3 +11,5 @@ mod latch;
 mod likeness;
 #[cfg(test)]
 mod sheets;
+#[cfg(test)]
+mod store;

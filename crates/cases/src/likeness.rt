@@ -1,7 +1,7 @@
 // Likeness on worked examples: the latch, and a control where the order of two commands is not to be told.
 use crate::latch;
-use control::table::{Counts, Store, Table};
-use display::code::Code;
+use crate::store::Codes;
+use control::table::Counts;
 use meaning::likeness::likeness;
 use meaning::published::Published;
 use policy::board::Board;
@@ -9,12 +9,12 @@ use policy::refusal::Refusal;
 use std::test::Fail;
 
 // Commands 0 to 3 belong to consoles 0 to 3.
-fn own_consoles() -> [u8; 24] {
-    let mut owners = [0; 24];
-    owners[1] = 1;
-    owners[2] = 2;
-    owners[3] = 3;
-    owners
+fn own_consoles() -> Codes {
+    let mut store = Codes::blank();
+    store.owners[1] = 1;
+    store.owners[2] = 2;
+    store.owners[3] = 3;
+    store
 }
 
 fn latch_board() -> Result<Board, Refusal> {
@@ -35,15 +35,8 @@ fn order_board() -> Result<Board, Refusal> {
 
 #[test]
 fn what_is_carried_on_is_not_dropped(rt: HostRuntime) -> Result<(), Fail> {
-    let steps = latch::steps();
-    let owners = latch::owners();
-    let shown = [0u16; 1200];
-    let store = Store {
-        steps: &steps,
-        owners: &owners,
-        displays: &shown,
-    };
-    let table: Table<'_, Code> = Table::new(latch::COUNTS, 0, store)?;
+    let store = latch::store();
+    let table = store.table(latch::COUNTS, 0)?;
     let board = latch_board()?;
     assert_eq!(rt;
         likeness(&board, &table, &Published::Ip, 2, &[0, 1], &[1]),
@@ -66,20 +59,13 @@ fn what_is_carried_on_is_not_dropped(rt: HostRuntime) -> Result<(), Fail> {
 
 #[test]
 fn an_order_that_nobody_carries_is_not_told(rt: HostRuntime) -> Result<(), Fail> {
-    let steps = [0; 2400];
-    let owners = own_consoles();
-    let shown = [0u16; 1200];
-    let store = Store {
-        steps: &steps,
-        owners: &owners,
-        displays: &shown,
-    };
+    let store = own_consoles();
     let counts = Counts {
         states: 9,
         commands: 4,
         consoles: 5,
     };
-    let table: Table<'_, Code> = Table::new(counts, 0, store)?;
+    let table = store.table(counts, 0)?;
     let board = order_board()?;
     assert_eq!(rt;
         likeness(
@@ -108,15 +94,8 @@ fn an_order_that_nobody_carries_is_not_told(rt: HostRuntime) -> Result<(), Fail>
 
 #[test]
 fn refusals_come_in_their_order(rt: HostRuntime) -> Result<(), Fail> {
-    let steps = latch::steps();
-    let owners = latch::owners();
-    let shown = [0u16; 1200];
-    let store = Store {
-        steps: &steps,
-        owners: &owners,
-        displays: &shown,
-    };
-    let table: Table<'_, Code> = Table::new(latch::COUNTS, 0, store)?;
+    let store = latch::store();
+    let table = store.table(latch::COUNTS, 0)?;
     let other = Board::bare(4, 2)?;
     let long = [0; 65];
     assert_eq!(rt;

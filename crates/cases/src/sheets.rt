@@ -1,7 +1,6 @@
 // Sheets read and written back, and refusals told with their place.
-use crate::latch;
-use control::control::Control;
-use control::table::{Counts, Store, Table};
+use crate::store::Codes;
+use control::table::{Counts, DISPLAYS, OWNERS, STEPS};
 use display::code::Code;
 use policy::board::Board;
 use policy::refusal::Refusal;
@@ -48,24 +47,15 @@ from to
 ";
 
 fn read_codes(sheet: &[u8]) -> Result<Found, Refusal> {
-    let mut steps = [0; 2400];
-    let mut owners = [0; 24];
-    let mut codes = [0; 1200];
-    read::<Code>(sheet, &mut steps, &mut owners, &mut codes)
+    let mut store = Codes::blank();
+    read::<Code>(sheet, &mut store.steps, &mut store.owners, &mut store.displays)
 }
 
 // Reads a sheet of codes, and writes what was read again.
 fn comes_back(sheet: &[u8], out: &mut [u8]) -> Result<usize, Refusal> {
-    let mut steps = [0; 2400];
-    let mut owners = [0; 24];
-    let mut codes = [0; 1200];
-    let found = read::<Code>(sheet, &mut steps, &mut owners, &mut codes)?;
-    let store = Store {
-        steps: &steps,
-        owners: &owners,
-        displays: &codes,
-    };
-    let table: Table<'_, Code> = Table::new(found.counts, found.start, store)?;
+    let mut store = Codes::blank();
+    let found = read::<Code>(sheet, &mut store.steps, &mut store.owners, &mut store.displays)?;
+    let table = store.table(found.counts, found.start)?;
     write(&table, &found.board, out)
 }
 
@@ -81,20 +71,17 @@ fn the_smallest_sheet_comes_back(rt: HostRuntime) -> Result<(), Fail> {
 
 #[test]
 fn the_largest_sheet_comes_back(rt: HostRuntime) -> Result<(), Fail> {
-    let steps = [99; 2400];
-    let owners = [11; 24];
-    let codes = [65535; 1200];
-    let store = Store {
-        steps: &steps,
-        owners: &owners,
-        displays: &codes,
+    let store = Codes {
+        steps: [99; STEPS],
+        owners: [11; OWNERS],
+        displays: [65535; DISPLAYS],
     };
     let counts = Counts {
         states: 100,
         commands: 24,
         consoles: 12,
     };
-    let table: Table<'_, Code> = Table::new(counts, 99, store)?;
+    let table = store.table(counts, 99)?;
     let mut board = Board::bare(12, 24)?;
     for from in 0..12 {
         for to in 0..12 {

@@ -1,18 +1,20 @@
 // Reads a sheet from standard input and reads its permitted flows back in words that a site can confirm.
 #![tactic(auto)]
 
+ghost use Rattle.std.specs.Prelude.{◌≡◌, IfOk, string_bytes};
+ghost use Rattle.report.specs.Readbacks.{readback_text};
+
 use anyhow::anyhow;
-use display::code::Code;
-use display::kind::DisplayKind;
-use display::reading::Reading;
+use control::control::Control;
+use policy::board::Board;
+use receiver::asking::ask;
+use receiver::question::Question;
 use report::readback::readback;
 use report::refusals::refusal_values;
-use report::trouble::Trouble;
-use sheet::kinds::names_readings;
-use sheet::reader::read;
-use std::alloc::Global;
+use std::alloc::{AllocError, Global};
 use std::env;
-use std::io::{Read, Write};
+use std::io::Read;
+use theory::limits::MOST_SHEET_BYTES;
 
 const HELP: &str = "readback < SHEET
 
@@ -22,29 +24,21 @@ and the place, line and block of the fault.
 ";
 
 // One byte more than a sheet may have, so that a longer one is seen to be too long.
-const MOST: u64 = 40961;
+const MOST: u64 = MOST_SHEET_BYTES as u64 + 1;
 
-// The flows of a sheet with displays of one kind, in words.
-fn answer_as<D: DisplayKind>(
+// The flows of a receiver's board in words, whatever it shows.
+#[derive(Drop)]
+struct Readback {
     heap: Global,
-    sheet: &[u8],
-    displays: &mut [D::Cell],
-) -> Result<Vec<u8>, Trouble> {
-    let mut steps = [0; 2400];
-    let mut owners = [0; 24];
-    let found = read::<D>(sheet, &mut steps, &mut owners, displays)?;
-    Ok(readback(heap, found.board.flows())?)
 }
 
-// As codes, or as readings where the sheet names them.
-fn answer(heap: Global, sheet: &[u8]) -> Result<Vec<u8>, Trouble> {
-    match answer_as::<Code>(heap, sheet, &mut [0; 1200]) {
-        Err(Trouble::Refused(refusal)) if names_readings(sheet, refusal) => answer_as::<Reading>(
-            heap,
-            sheet,
-            &mut [None; 1200],
-        ),
-        other => other,
+impl Question for Readback {
+    type Answer = Result<String, AllocError>;
+
+    ghost answered = { λ _ board _ _ _ answer. IfOk answer (λ t. string_bytes t ≡ readback_text board.flows board.consoles) };
+
+    fn ask<C: Control>(&self, board: Board, _control: &C) -> Result<String, AllocError> {
+        readback(self.heap, board.flows())
     }
 }
 
@@ -57,10 +51,10 @@ fn run(rt: &HostRuntime) -> anyhow::Result<()> {
     }
     let mut sheet = Vec::new(rt.alloc());
     rt.stdin().take(MOST).read_to_end(&mut sheet)?;
-    match answer(rt.alloc(), sheet.as_slice()) {
-        Ok(text) => rt.stdout().write_all(text.as_slice())?,
-        Err(Trouble::Refused(refusal)) => rt.print(refusal_values(rt.alloc(), refusal)?)?,
-        Err(Trouble::Memory) => return Err(anyhow!("there is no memory for the answer")),
+    match ask(sheet.as_slice(), &Readback { heap: rt.alloc() }) {
+        Ok(Ok(text)) => rt.print(text)?,
+        Ok(Err(_)) => return Err(anyhow!("there is no memory for the answer")),
+        Err(refusal) => rt.print(refusal_values(rt.alloc(), refusal)?)?,
     }
     Ok(())
 }

@@ -1,21 +1,18 @@
 // Replays command sequences on a receiver: a transcript of one, or a comparison of two.
 #![tactic(auto)]
 
+ghost use Rattle.std.specs.Prelude.{⊤};
+
 use anyhow::anyhow;
 use control::control::Control;
-use control::table::{Store, Table};
-use display::code::Code;
-use display::kind::DisplayKind;
-use display::reading::Reading;
 use meaning::published::Published;
 use policy::board::Board;
-use policy::refusal::Refusal;
+use receiver::asking::ask;
+use receiver::question::Question;
 use report::comparison::comparison;
 use report::refusals::refusal_sentence;
 use report::transcript::transcript;
 use report::trouble::Trouble;
-use sheet::kinds::names_readings;
-use sheet::reader::read;
 use std::alloc::Global;
 use std::io::Write;
 use std::{env, fs};
@@ -60,7 +57,8 @@ from to
 1 2
 ";
 
-// What the next word of the command line is.
+// What the next word of the command line is. Words come in any order, a later flag may cut an earlier
+// one short, and the first word that is wrong is told: so they are taken one by one, in a state.
 #[derive(Clone, Copy)]
 enum Next {
     Meaning,
@@ -74,7 +72,7 @@ enum Next {
 // What the words on the command line ask for.
 #[derive(Drop)]
 struct Asked {
-    help: bool,
+    heap: Global,
     meaning: Option<Published>,
     console: u8,
     first: Vec<u8>,
@@ -102,10 +100,7 @@ fn number(word: &str) -> anyhow::Result<u8> {
 // Takes one word up into what is asked, and says what the next word is.
 fn take_word(rt: &HostRuntime, asked: &mut Asked, next: Next, word: &str) -> anyhow::Result<Next> {
     match (word, next) {
-        ("--help", _) => {
-            asked.help = true;
-            Ok(next)
-        }
+        ("--help", _) => Ok(next),
         ("--alike", _) => Ok(Next::Meaning),
         ("--and", _) => Ok(Next::Second),
         ("--lock", _) => Ok(Next::Lock),
@@ -140,7 +135,7 @@ fn take_word(rt: &HostRuntime, asked: &mut Asked, next: Next, word: &str) -> any
 fn read_words(rt: &HostRuntime) -> anyhow::Result<Asked> {
     let heap = rt.alloc();
     let mut asked = Asked {
-        help: false,
+        heap,
         meaning: None,
         console: 0,
         first: Vec::new(heap),
@@ -155,65 +150,45 @@ fn read_words(rt: &HostRuntime) -> anyhow::Result<Asked> {
     Ok(asked)
 }
 
-// The answer on a control, under a board with the lockouts asked for besides.
-fn answer_on<C: Control>(
-    heap: Global,
-    asked: &Asked,
-    mut board: Board,
-    control: &C,
-) -> Result<Vec<u8>, Trouble> {
-    for command in asked.locked.as_slice() {
-        board.lock(usize::from(*command))?;
-    }
-    let first = asked.first.as_slice();
-    match asked.meaning {
-        None => transcript(heap, &board, control, first),
-        Some(meaning) => comparison(
-            heap,
-            &board,
-            control,
-            meaning,
-            usize::from(asked.console),
-            first,
-            asked.second.as_slice(),
-        ),
+// What is asked for, under the board's lockouts and those asked for besides.
+impl Question for Asked {
+    type Answer = Result<Vec<u8>, Trouble>;
+
+    ghost answered = { λ _ _ _ _ _ _. ⊤ };
+
+    fn ask<C: Control>(&self, mut board: Board, control: &C) -> Result<Vec<u8>, Trouble> {
+        for command in &self.locked {
+            board.lock(usize::from(*command))?;
+        }
+        let first = self.first.as_slice();
+        match self.meaning {
+            None => transcript(self.heap, &board, control, first),
+            Some(meaning) => comparison(
+                self.heap,
+                &board,
+                control,
+                meaning,
+                usize::from(self.console),
+                first,
+                self.second.as_slice(),
+            ),
+        }
     }
 }
 
-// The answer on the control of a sheet with displays of one kind.
-fn answer_as<D: DisplayKind>(
-    heap: Global,
-    asked: &Asked,
-    displays: &mut [D::Cell],
-) -> Result<Vec<u8>, Trouble> {
-    let mut steps = [0; 2400];
-    let mut owners = [0; 24];
-    let found = read::<D>(asked.sheet.as_slice(), &mut steps, &mut owners, displays)?;
-    let store = Store {
-        steps: &steps,
-        owners: &owners,
-        displays,
-    };
-    let table: Table<'_, D> = Table::new(found.counts, found.start, store)?;
-    answer_on(heap, asked, found.board, &table)
-}
-
-// As codes, or as readings where the sheet names them.
-fn answer(heap: Global, asked: &Asked) -> Result<Vec<u8>, Trouble> {
-    match answer_as::<Code>(heap, asked, &mut [0; 1200]) {
-        Err(Trouble::Refused(refusal)) if names_readings(asked.sheet.as_slice(), refusal) =>
-            answer_as::<Reading>(heap, asked, &mut [None; 1200]),
-        other => other,
-    }
+fn answer(asked: &Asked) -> Result<Vec<u8>, Trouble> {
+    ask(asked.sheet.as_slice(), asked)?
 }
 
 fn run(rt: &HostRuntime) -> anyhow::Result<()> {
     let asked = read_words(rt)?;
-    if asked.help {
-        rt.print(HELP)?;
-        return Ok(());
+    for word in env::args(rt)?.skip(1) {
+        if word.as_str() == "--help" {
+            rt.print(HELP)?;
+            return Ok(());
+        }
     }
-    match answer(rt.alloc(), &asked) {
+    match answer(&asked) {
         Ok(text) => rt.stdout().write_all(text.as_slice())?,
         Err(Trouble::Refused(refusal)) => rt.print(refusal_sentence(rt.alloc(), refusal)?)?,
         Err(Trouble::Memory) => return Err(anyhow!("there is no memory for the answer")),

@@ -10,6 +10,10 @@ stands F u v = not (u == v) && F u v
 abbrev pub flow_line : Flow → ℕ → ℕ → List ℕ
 flow_line F u v = cond (stands F u v) (codes "console " ++ (decimal u ++ (codes " may affect console " ++ (decimal v ++ codes "\n")))) []
 
+-- the flows from console u of k
+abbrev pub flow_lines : Flow → ℕ → ℕ → List ℕ
+flow_lines F k u = upto (flow_line F u) k
+
 -- u, where it may affect v
 abbrev pub giver : Flow → ℕ → ℕ → List ℕ
 giver F v u = cond (stands F u v) (codes ", console " ++ decimal u) []
@@ -24,6 +28,6 @@ givers_line F k v = givers_begun v ++ (upto (giver F v) k ++ codes "\n")
 abbrev pub readback_text : Flow → ℕ → List ℕ
 readback_text F k =
     codes "Permitted flows:\n"
-    ++ (upto (λ u. upto (flow_line F u) k) k
+    ++ (upto (flow_lines F k) k
     ++ (codes "Seen from each console:\n"
     ++ upto (givers_line F k) k))

@@ -33,14 +33,17 @@ heading consoles =
     ++ (padded state_width (codes "state")
     ++ (columns (λ u. codes "console " ++ decimal u) consoles ++ (10 ∷ [])))))
 
+-- the end of a line: a state, and what each console shows there
+abbrev pub state_columns : {D : Type 0} → (D → List ℕ) → ControlValue D → ℕ → List ℕ
+state_columns mark v s = padded state_width (decimal s) ++ (columns (λ u. mark (display_of v s u)) v.consoles ++ (10 ∷ []))
+
 -- a line: three words, the state, and what each console shows there
 abbrev pub line : {D : Type 0} → (D → List ℕ) → ControlValue D → List ℕ → List ℕ → List ℕ → ℕ → List ℕ
 line mark v step command effect s =
     padded step_width step
     ++ (padded command_width command
     ++ (padded effect_width effect
-    ++ (padded state_width (decimal s)
-    ++ (columns (λ u. mark (display_of v s u)) v.consoles ++ (10 ∷ [])))))
+    ++ state_columns mark v s))
 
 -- a locked command is shown as locked, and moves nothing
 abbrev pub effect_of : Bool → List ℕ

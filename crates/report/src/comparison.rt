@@ -16,7 +16,9 @@ use meaning::likeness::likeness;
 use meaning::published::Published;
 use policy::board::Board;
 use policy::lockouts::Lockouts;
-use std::alloc::{AllocError, Global};
+use std::alloc::Global;
+use std::io;
+use std::io::Write;
 
 // The name under which a meaning is asked for.
 pub fn name_of(meaning: Published) -> &'static str
@@ -30,45 +32,46 @@ pub fn name_of(meaning: Published) -> &'static str
 }
 
 fn push_verdict(
-    heap: Global,
     text: &mut Vec<u8>,
     meaning: Published,
     console: usize,
     alike: bool,
-) -> Result<(), AllocError>
+) -> io::Result<()>
     ensures { OnOk result (text.new.items ≡ text.old.items ++ verdict meaning console alike) }
 {
     let name = name_of(meaning);
-    let said = if alike {
-        format!(in heap; "Under {name} the two sequences are alike for console {console}.\n")?
-    } else {
-        format!(in heap; "Under {name} the two sequences are not alike for console {console}.\n")?
-    };
-    text.extend_from_slice(said.as_bytes())?;
-    Ok(())
+    let are = if alike { "are" } else { "are not" };
+    writeln!(
+        text,
+        "Under {name} the two sequences {are} alike for console {console}."
+    )
+}
+
+// A console of a control under lockouts.
+#[derive(Drop)]
+struct Seen<'a, C> {
+    control: &'a C,
+    lockouts: &'a Lockouts,
+    console: usize,
 }
 
 // What the console shows after a sequence.
 fn push_outcome<C: Control>(
-    heap: Global,
     text: &mut Vec<u8>,
-    control: &C,
-    lockouts: &Lockouts,
-    console: usize,
+    seen: &Seen<'_, C>,
     which: &str,
     sequence: &[u8],
-) -> Result<(), AllocError>
-    ensures { OnOk result (text.new.items ≡ text.old.items ++ outcome C.Display.DisplayKind.marked (C.Control.value control.now) (locks lockouts.now) console which.now sequence.now) }
+) -> io::Result<()>
+    ensures { OnOk result (text.new.items ≡ text.old.items ++ outcome C.Display.DisplayKind.marked (C.Control.value seen.now.control.now) (locks seen.now.lockouts.now) seen.now.console which.now sequence.now) }
 {
-    let state = walk(control, lockouts, sequence);
-    let mark = control.display(state, console).mark();
-    let before = format!(in heap;
+    let state = walk(seen.control, seen.lockouts, sequence);
+    let mark = seen.control.display(state, seen.console).mark();
+    write!(
+        text,
         "After the {which} one the state is {state} and the console shows "
     )?;
-    text.extend_from_slice(before.as_bytes())?;
-    text.extend_from_slice(mark.text())?;
-    text.extend_from_slice(b".\n")?;
-    Ok(())
+    text.write_all(mark.text())?;
+    writeln!(text, ".")
 }
 
 // Whether two sequences are alike for a console under a meaning, and what the console shows
@@ -86,25 +89,14 @@ pub fn comparison<C: Control>(
     ensures refusals { RefusedAs result (likeness_answer (published_meaning meaning) (consoles_of (flows_of board.now)) (commands_of (lockouts_of board.now)) (may_affect (flows_of board.now)) (C.Control.value control.now) console left.now right.now) }
 {
     let alike = likeness(board, control, &meaning, console, left, right)?;
+    let seen = Seen {
+        control,
+        lockouts: board.lockouts(),
+        console,
+    };
     let mut text = Vec::new(heap);
-    push_verdict(heap, &mut text, meaning, console, alike)?;
-    push_outcome(
-        heap,
-        &mut text,
-        control,
-        board.lockouts(),
-        console,
-        "first",
-        left,
-    )?;
-    push_outcome(
-        heap,
-        &mut text,
-        control,
-        board.lockouts(),
-        console,
-        "second",
-        right,
-    )?;
+    push_verdict(&mut text, meaning, console, alike)?;
+    push_outcome(&mut text, &seen, "first", left)?;
+    push_outcome(&mut text, &seen, "second", right)?;
     Ok(text)
 }

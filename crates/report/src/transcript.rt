@@ -5,7 +5,7 @@ ghost use Rattle.control.specs.Replays.{replay_answer};
 ghost use Rattle.policy.specs.Board.{value_of};
 ghost use Rattle.policy.specs.Lockouts.{locks};
 ghost use Rattle.report.specs.Lines.{padded};
-ghost use Rattle.report.specs.Transcripts.{columns, heading, line, effect_of, closing, lines, transcript_text};
+ghost use Rattle.report.specs.Transcripts.{columns, heading, line, state_columns, effect_of, closing, lines, transcript_text};
 ghost use Rattle.report.specs.Troubles.{RefusedAs};
 
 use crate::lines::push_padded;
@@ -16,18 +16,29 @@ use display::kind::DisplayKind;
 use policy::board::Board;
 use policy::lockouts::Lockouts;
 use std::alloc::{AllocError, Global};
+use std::io;
+use std::io::Write;
 
-fn push_number(
-    heap: Global,
-    text: &mut Vec<u8>,
-    width: usize,
-    number: usize,
-) -> Result<(), AllocError>
-    ensures { OnOk result (text.new.items ≡ text.old.items ++ padded width (decimal number)) }
+// The column of a console; the other columns are as wide as the formats below say.
+const CONSOLE_WIDTH: usize = 12;
+
+// A column for each console with its number.
+fn push_console_names(heap: Global, text: &mut Vec<u8>, consoles: usize) -> Result<(), AllocError>
+    ensures { OnOk result (text.new.items ≡ text.old.items ++ columns (λ u. codes "console " ++ decimal u) consoles) }
 {
-    let word = format!(in heap; "{number}")?;
-    push_padded(text, width, word.as_bytes())?;
+    for console in 0..consoles {
+        let name = format!(in heap; "console {console}")?;
+        push_padded(text, CONSOLE_WIDTH, name.as_bytes())?;
+    }
     Ok(())
+}
+
+fn push_heading(heap: Global, text: &mut Vec<u8>, consoles: usize) -> io::Result<()>
+    ensures { OnOk result (text.new.items ≡ text.old.items ++ heading consoles) }
+{
+    write!(text, " step  command  effect  state")?;
+    push_console_names(heap, text, consoles)?;
+    writeln!(text)
 }
 
 // A column for each console with what it shows at `state`.
@@ -40,123 +51,85 @@ fn push_displays<C: Control>(
 {
     for console in 0..control.consoles() {
         let mark = control.display(state, console).mark();
-        push_padded(text, 12, mark.text())?;
+        push_padded(text, CONSOLE_WIDTH, mark.text())?;
     }
     Ok(())
 }
 
-// A column for each console with its number.
-fn push_console_names(heap: Global, text: &mut Vec<u8>, consoles: usize) -> Result<(), AllocError>
-    ensures { OnOk result (text.new.items ≡ text.old.items ++ columns (λ u. codes "console " ++ decimal u) consoles) }
+// The end of a line: a state, and what each console shows there.
+fn push_state<C: Control>(text: &mut Vec<u8>, control: &C, state: usize) -> io::Result<()>
+    ensures { OnOk result (text.new.items ≡ text.old.items ++ state_columns C.Display.DisplayKind.marked (C.Control.value control.now) state) }
 {
-    for console in 0..consoles {
-        let name = format!(in heap; "console {console}")?;
-        push_padded(text, 12, name.as_bytes())?;
-    }
-    Ok(())
-}
-
-fn push_heading(heap: Global, text: &mut Vec<u8>, consoles: usize) -> Result<(), AllocError>
-    ensures { OnOk result (text.new.items ≡ text.old.items ++ heading consoles) }
-{
-    push_padded(text, 5, b"step")?;
-    push_padded(text, 9, b"command")?;
-    push_padded(text, 8, b"effect")?;
-    push_padded(text, 7, b"state")?;
-    push_console_names(heap, text, consoles)?;
-    text.push(b'\n')?;
-    Ok(())
-}
-
-// The words of a line that stand before the state.
-#[derive(Clone, Copy)]
-struct Words<'a> {
-    step: &'a [u8],
-    command: &'a [u8],
-    effect: &'a [u8],
-}
-
-fn push_line<C: Control>(
-    heap: Global,
-    text: &mut Vec<u8>,
-    control: &C,
-    words: Words<'_>,
-    state: usize,
-) -> Result<(), AllocError>
-    ensures { OnOk result (text.new.items ≡ text.old.items ++ line C.Display.DisplayKind.marked (C.Control.value control.now) words.entry.step.now words.entry.command.now words.entry.effect.now state) }
-{
-    push_padded(text, 5, words.step)?;
-    push_padded(text, 9, words.command)?;
-    push_padded(text, 8, words.effect)?;
-    push_number(heap, text, 7, state)?;
+    write!(text, "{state:>7}")?;
     push_displays(text, control, state)?;
-    text.push(b'\n')?;
-    Ok(())
+    writeln!(text)
 }
 
-fn effect(locked: bool) -> &'static [u8]
+// The line of the start, where no command is given yet.
+fn push_start<C: Control>(text: &mut Vec<u8>, control: &C) -> io::Result<()>
+    ensures { OnOk result (text.new.items ≡ text.old.items ++ line C.Display.DisplayKind.marked (C.Control.value control.now) (codes "start") [] [] (C.Control.value control.now).start) }
+{
+    write!(text, "start                 ")?;
+    push_state(text, control, control.start())
+}
+
+fn effect(locked: bool) -> &'static str
     ensures { result.now ≡ effect_of locked }
 {
-    if locked { b"locked" } else { b"given" }
+    if locked { "locked" } else { "given" }
 }
 
-// The line of one command: its step, the command, whether it was locked, and the state after it.
-fn push_command<C: Control>(
-    heap: Global,
-    text: &mut Vec<u8>,
-    control: &C,
+// A command that was given: its step from 1, and whether it was locked.
+#[derive(Clone, Copy)]
+struct Given {
     step: usize,
     command: usize,
     locked: bool,
-    state: usize,
-) -> Result<(), AllocError>
-    ensures { OnOk result (text.new.items ≡ text.old.items ++ line C.Display.DisplayKind.marked (C.Control.value control.now) (decimal step) (decimal command) (effect_of locked) state) }
-{
-    let step = format!(in heap; "{step}")?;
-    let command = format!(in heap; "{command}")?;
-    let words = Words {
-        step: step.as_bytes(),
-        command: command.as_bytes(),
-        effect: effect(locked),
-    };
-    push_line(heap, text, control, words, state)?;
-    Ok(())
 }
 
-fn push_closing(heap: Global, text: &mut Vec<u8>, state: usize) -> Result<(), AllocError>
-    ensures { OnOk result (text.new.items ≡ text.old.items ++ closing state) }
+// The columns of a command before the state.
+fn push_given(text: &mut Vec<u8>, given: Given) -> io::Result<()>
+    ensures { OnOk result (text.new.items ≡ text.old.items ++ (padded 5 (decimal given.step) ++ (padded 9 (decimal given.command) ++ padded 8 (effect_of given.locked)))) }
 {
-    let closing = format!(in heap; "closing state {state}\n")?;
-    text.extend_from_slice(closing.as_bytes())?;
-    Ok(())
+    let effect = effect(given.locked);
+    write!(text, "{:>5}{:>9}{effect:>8}", given.step, given.command)
+}
+
+// The line of one command, and of the state after it.
+fn push_command<C: Control>(
+    text: &mut Vec<u8>,
+    control: &C,
+    given: Given,
+    state: usize,
+) -> io::Result<()>
+    ensures { OnOk result (text.new.items ≡ text.old.items ++ line C.Display.DisplayKind.marked (C.Control.value control.now) (decimal given.step) (decimal given.command) (effect_of given.locked) state) }
+{
+    push_given(text, given)?;
+    push_state(text, control, state)
 }
 
 // The lines of all commands, run from the start, and the closing state.
 fn push_commands<C: Control>(
-    heap: Global,
     text: &mut Vec<u8>,
     control: &C,
     lockouts: &Lockouts,
     sequence: &[u8],
-) -> Result<(), AllocError>
+) -> io::Result<()>
     ensures { OnOk result (text.new.items ≡ text.old.items ++ lines C.Display.DisplayKind.marked (C.Control.value control.now) (locks lockouts.now) 1 (C.Control.value control.now).start sequence.now) }
 {
     let mut state = control.start();
     for (i, command) in sequence.iter().enumerate() {
         let command = usize::from(*command);
         state = give(control, lockouts, state, command);
-        push_command(
-            heap,
-            text,
-            control,
-            i + 1,
+        let locked = lockouts.is_locked(command);
+        let given = Given {
+            step: i + 1,
             command,
-            lockouts.is_locked(command),
-            state,
-        )?;
+            locked,
+        };
+        push_command(text, control, given, state)?;
     }
-    push_closing(heap, text, state)?;
-    Ok(())
+    writeln!(text, "closing state {state}")
 }
 
 // The transcript of a sequence under a board's lockouts, refused as replay refuses it.
@@ -172,12 +145,7 @@ pub fn transcript<C: Control>(
     replay(board, control, sequence)?;
     let mut text = Vec::new(heap);
     push_heading(heap, &mut text, control.consoles())?;
-    let start = Words {
-        step: b"start",
-        command: b"",
-        effect: b"",
-    };
-    push_line(heap, &mut text, control, start, control.start())?;
-    push_commands(heap, &mut text, control, board.lockouts(), sequence)?;
+    push_start(&mut text, control)?;
+    push_commands(&mut text, control, board.lockouts(), sequence)?;
     Ok(text)
 }

@@ -4,6 +4,7 @@ ghost use Rattle.report.specs.declared.trouble.Trouble.TheVariants.{Refused, Mem
 
 use policy::refusal::Refusal;
 use std::alloc::AllocError;
+use std::io;
 
 #[derive(Clone, Copy, PartialEq, Eq, Debug)]
 pub enum Trouble {
@@ -23,6 +24,15 @@ impl From<AllocError> for Trouble {
     ghost from_gives = { λ _ r. r ≡ Memory };
 
     fn from(_error: AllocError) -> Trouble {
+        Trouble::Memory
+    }
+}
+
+// Writing into a text fails for want of memory alone.
+impl From<io::Error> for Trouble {
+    ghost from_gives = { λ _ r. r ≡ Memory };
+
+    fn from(_error: io::Error) -> Trouble {
         Trouble::Memory
     }
 }

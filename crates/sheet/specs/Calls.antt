@@ -20,7 +20,7 @@ use Rattle.sheet.specs.declared.found.Found.{Found}
 abbrev pub refusal_of : SheetFault → Refusal
 refusal_of f = Fault f.row.mark.cause f.row.mark.place f.row.line f.block
 
-abbrev refused_as : {A : Type 0} → Result A SheetFault → Result A Refusal
+abbrev pub refused_as : {A : Type 0} → Result A SheetFault → Result A Refusal
 refused_as (Ok x) = Ok x
 refused_as (Err f) = Err (refusal_of f)
 

@@ -1,0 +1,5 @@
+// Questions put to the receiver of a sheet, whatever it shows.
+#![tactic(auto)]
+
+pub mod asking;
+pub mod question;
