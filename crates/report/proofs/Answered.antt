@@ -1,9 +1,10 @@
 -- What a likeness that was not refused says.
 use Rattle.std.proofs.Common.{◌≡◌, ℕ, Bool, true, false, cond, ◌&&◌, eqb, ltb, leb, List, length, Ok, Err, Result, arith}
 use Rattle.policy.specs.declared.refusal.Refusal.{Refusal}
+use Rattle.theory.specs.Boards.{BoardValue}
 use Rattle.theory.specs.Control.{ControlValue, owner_of}
-use Rattle.theory.specs.Flows.{Flow}
 use Rattle.theory.specs.Runs.{all_below}
+use Rattle.control.specs.Replays.{same_counts}
 use Rattle.links.specs.Meaning.{MeaningValue}
 use Rattle.meaning.specs.Asked.{most_compared}
 use Rattle.meaning.specs.Likeness.{likeness_answer}
@@ -13,10 +14,10 @@ checked : (test : Bool) {r : Result Bool Refusal} (e : Refusal) (b x : Bool) →
 checked true e b x passed said = passed said
 checked false e b x passed said = let never : ◌≡◌ {A = ℕ} 0 1 = cc in absurd (omega arith)
 
-pub alike_said : {D : Type 0} (m : MeaningValue) (k n : ℕ) (F : Flow) (v : ControlValue D) (u : ℕ) (p q : List ℕ) (b : Bool) → likeness_answer m k n F v u p q ≡ Ok b → b ≡ m.alike F (owner_of v) u p q
-alike_said m k n F v u p q b =
-    checked (ltb u k) _ b _
-    (checked (all_below n p && all_below n q) _ b _
-    (checked (eqb v.consoles k && eqb v.commands n) _ b _
-    (checked (leb (length p) most_compared && leb (length q) most_compared) _ b _
+pub alike_said : {D : Type 0} (m : MeaningValue) (b : BoardValue) (v : ControlValue D) (u : ℕ) (p q : List ℕ) (x : Bool) → likeness_answer m b v u p q ≡ Ok x → x ≡ m.alike b.flows (owner_of v) u p q
+alike_said m b v u p q x =
+    checked (ltb u b.consoles) _ x _
+    (checked (all_below b.commands p && all_below b.commands q) _ x _
+    (checked (same_counts b v) _ x _
+    (checked (leb (length p) most_compared && leb (length q) most_compared) _ x _
     (λ same. cc))))

@@ -1,16 +1,11 @@
 -- Two sequences compared for a console, in words.
 use Rattle.std.specs.Prelude.{ℕ, Bool, cond, List, ◌++◌, codes, decimal}
+use Rattle.theory.specs.Boards.{BoardValue}
 use Rattle.theory.specs.Control.{ControlValue, owner_of, next_of, display_of}
-use Rattle.theory.specs.Flows.{Flow, Lockout}
+use Rattle.theory.specs.Flows.{Lockout}
 use Rattle.theory.specs.Runs.{leads}
-use Rattle.meaning.specs.Published.{published_meaning}
+use Rattle.meaning.specs.Published.{published_meaning, meaning_name}
 use Rattle.meaning.specs.declared.published.Published.{Published}
-use Rattle.meaning.specs.declared.published.Published.TheVariants.{P, Ip, Ta}
-
-abbrev pub meaning_name : Published → List ℕ
-meaning_name P = codes "P"
-meaning_name Ip = codes "IP"
-meaning_name Ta = codes "TA"
 
 abbrev pub verdict : Published → ℕ → Bool → List ℕ
 verdict m u alike =
@@ -28,6 +23,6 @@ outcome mark v L u which p =
 abbrev pub comparison : {D : Type 0} → (D → List ℕ) → ControlValue D → Lockout → Published → ℕ → Bool → List ℕ → List ℕ → List ℕ
 comparison mark v L m u alike p q = verdict m u alike ++ (outcome mark v L u (codes "first") p ++ outcome mark v L u (codes "second") q)
 
--- the same with the verdict that the meaning has for the sequences under the flows F
-abbrev pub compared : {D : Type 0} → (D → List ℕ) → ControlValue D → Lockout → Published → ℕ → Flow → List ℕ → List ℕ → List ℕ
-compared mark v L m u F p q = comparison mark v L m u ((published_meaning m).alike F (owner_of v) u p q) p q
+-- the same with the verdict that the meaning has for the sequences under the board's flows
+abbrev pub compared : {D : Type 0} → (D → List ℕ) → ControlValue D → BoardValue → Published → ℕ → List ℕ → List ℕ → List ℕ
+compared mark v b m u p q = comparison mark v b.locked m u ((published_meaning m).alike b.flows (owner_of v) u p q) p q

@@ -2,10 +2,9 @@
 ghost use Rattle.std.specs.Prelude.{◌≡◌, [], ◌∷◌, ◌++◌, IfOk, string_bytes, OnOk};
 ghost use Rattle.meaning.specs.Likeness.{likeness_answer};
 ghost use Rattle.meaning.specs.Published.{published_meaning};
-ghost use Rattle.policy.specs.Board.{flows_of, lockouts_of};
-ghost use Rattle.policy.specs.Flows.{consoles_of, may_affect};
-ghost use Rattle.policy.specs.Lockouts.{commands_of, locks};
-ghost use Rattle.report.specs.Comparisons.{meaning_name, verdict, outcome, compared};
+ghost use Rattle.policy.specs.Board.{value_of};
+ghost use Rattle.policy.specs.Lockouts.{locks};
+ghost use Rattle.report.specs.Comparisons.{verdict, outcome, compared};
 ghost use Rattle.report.specs.Troubles.{RefusedAs};
 
 use crate::trouble::Trouble;
@@ -20,17 +19,6 @@ use std::alloc::Global;
 use std::io;
 use std::io::Write;
 
-// The name under which a meaning is asked for.
-pub fn name_of(meaning: Published) -> &'static str
-    ensures { result.now ≡ meaning_name meaning }
-{
-    match meaning {
-        Published::P => "P",
-        Published::Ip => "IP",
-        Published::Ta => "TA",
-    }
-}
-
 fn push_verdict(
     text: &mut Vec<u8>,
     meaning: Published,
@@ -39,11 +27,10 @@ fn push_verdict(
 ) -> io::Result<()>
     ensures { OnOk result (text.new.items ≡ text.old.items ++ verdict meaning console alike) }
 {
-    let name = name_of(meaning);
     let are = if alike { "are" } else { "are not" };
     writeln!(
         text,
-        "Under {name} the two sequences {are} alike for console {console}."
+        "Under {meaning} the two sequences {are} alike for console {console}."
     )
 }
 
@@ -85,8 +72,8 @@ pub fn comparison<C: Control>(
     left: &[u8],
     right: &[u8],
 ) -> Result<Vec<u8>, Trouble>
-    ensures text { IfOk result (λ t. t.items ≡ compared C.Display.DisplayKind.marked (C.Control.value control.now) (locks (lockouts_of board.now)) meaning console (may_affect (flows_of board.now)) left.now right.now) }
-    ensures refusals { RefusedAs result (likeness_answer (published_meaning meaning) (consoles_of (flows_of board.now)) (commands_of (lockouts_of board.now)) (may_affect (flows_of board.now)) (C.Control.value control.now) console left.now right.now) }
+    ensures text { IfOk result (λ t. t.items ≡ compared C.Display.DisplayKind.marked (C.Control.value control.now) (value_of board.now) meaning console left.now right.now) }
+    ensures refusals { RefusedAs result (likeness_answer (published_meaning meaning) (value_of board.now) (C.Control.value control.now) console left.now right.now) }
 {
     let alike = likeness(board, control, &meaning, console, left, right)?;
     let seen = Seen {
