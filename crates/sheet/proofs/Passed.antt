@@ -1,13 +1,11 @@
 -- A pass over the rows from its start to its end.
-use Rattle.std.proofs.Common.{◌≡◌, ℕ, ◌+◌, ◌<◌, List, length, None, Ok, Err, Result, sym, refl, ap, ◌∙◌, arith}
+use Rattle.std.proofs.Common.{◌≡◌, ℕ, ◌+◌, ◌<◌, List, length, None, Ok, Result, sym, ap, ◌∙◌, arith}
 use Rattle.mark.specs.declared.cause.Cause.{Cause}
-use Rattle.sheet.specs.Faults.{on}
-use Rattle.sheet.specs.Reading.{Entries, with_value, no_entries, plan_of, rows_at}
+use Rattle.sheet.specs.Reading.{no_entries, plan_of, rows_at}
 use Rattle.sheet.specs.Due.{Within, rows_left}
-use Rattle.sheet.specs.Entries.{counted, value_of}
-use Rattle.sheet.specs.Passes.{Ready, Stepped, Faulted, left_at, line_behind, started}
+use Rattle.sheet.specs.Entries.{counted}
+use Rattle.sheet.specs.Passes.{Ready, Stepped, left_at, line_behind, started}
 use Rattle.sheet.specs.declared.due.Due.{Due}
-use Rattle.sheet.specs.declared.fault.SheetFault.{SheetFault}
 use Rattle.sheet.specs.declared.marks.Cursor.{Cursor}
 use Rattle.sheet.specs.declared.progress.Progress.{Progress}
 use Rattle.sheet.specs.declared.heading.Heading.{Heading}

@@ -1,7 +1,6 @@
 -- The stores while they are filled: where a row's entry belongs, and what was written so far.
 use Rattle.std.specs.Prelude.{◌≡◌, ℕ, ◌*◌, ◌<◌, List, ◌++◌, take, Some, None, Ok, Err, Option, Result, slice_set}
 use Rattle.control.specs.declared.table.Counts.{Counts}
-use Rattle.sheet.specs.Calls.{overwritten}
 use Rattle.sheet.specs.Reading.{Entries}
 use Rattle.sheet.specs.declared.due.Block.TheVariants as block
 use Rattle.sheet.specs.declared.due.Due.{Due}

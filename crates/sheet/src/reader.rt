@@ -67,7 +67,6 @@ fn fill<D: DisplayKind>(
     ensures steps { FrontBy (λ e. e.steps) (rows_behind D.DisplayKind.reads heading.now cursor.old.sheet.now cursor.old.at) (heading.now.counts.states * heading.now.counts.commands) steps.new }
     ensures owners { FrontBy (λ e. e.owners) (rows_behind D.DisplayKind.reads heading.now cursor.old.sheet.now cursor.old.at) heading.now.counts.commands owners.new }
     ensures displays { FrontBy (λ e. map D.DisplayKind.cell e.displays) (rows_behind D.DisplayKind.reads heading.now cursor.old.sheet.now cursor.old.at) (heading.now.counts.states * heading.now.counts.consoles) displays.new }
-    ensures lengths { (length steps.new ≡ length steps.old) × (length owners.new ≡ length owners.old) × (length displays.new ≡ length displays.old) }
 {
     let mut progress = Progress::start(*cursor);
     while let Some((due, entry)) = progress.next::<D>(heading)? {
