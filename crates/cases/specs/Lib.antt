@@ -1,0 +1,1 @@
+-- No definitions: the worked examples speak in those of the crates below.

@@ -1,1 +1,2 @@
+-- Lemmas on pairs.
 pub mod Beside

@@ -8,8 +8,8 @@ use crate::reading::read_number;
 use policy::refusal::Refusal;
 use theory::limits::{MOST_COMMANDS, MOST_CONSOLES, MOST_STATES};
 
-// Each side moves and shows its own; a pair that does not fit is the left control alone. Callers
-// copy pairs, and a generic struct with a ghost field is not Copy: so each method asks for the fit.
+// Each side moves and shows its own; a pair that does not fit is the left control alone. Any two
+// controls may be put into the public fields, fit or unfit: so each method asks for the fit.
 #[derive(Clone, Copy)]
 pub struct SideBySide<L, R> {
     pub left: L,

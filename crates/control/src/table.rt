@@ -38,7 +38,7 @@ pub struct Store<'a, C> {
 }
 
 // A table reads counts, start and store as they are: a count out of range as 1, anything else out
-// of range as 0. Callers copy tables, and a generic struct with a ghost field is not Copy.
+// of range as 0. No invariant says that the store has room: each read would still be the same.
 #[derive(Clone, Copy)]
 pub struct Table<'a, D: DisplayKind> {
     counts: Counts,
@@ -57,11 +57,7 @@ fn entry(store: &[u8], at: usize) -> usize
 fn display_at<D: DisplayKind>(store: &[D::Cell], at: usize) -> D
     ensures { result ≡ slice_index_or (map D.DisplayKind.stored store.now) at D.DisplayKind.zero }
 {
-    // No `map_or_else`: a closure whose result is of a type parameter gets no proof.
-    match store.get(at) {
-        Some(cell) => D::from_cell(*cell),
-        None => D::zero(),
-    }
+    store.get(at).map_or_else(|| D::zero(), |cell| D::from_cell(*cell))
 }
 
 impl<'a, D: DisplayKind> Table<'a, D> {

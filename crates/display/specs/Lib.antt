@@ -1,3 +1,4 @@
+-- Ranges, marks and the two kinds of display, with the lemmas that their laws need.
 pub mod Marks
 pub mod Ranges
 pub mod Sameness

@@ -1,5 +1,5 @@
 // Tokens: a run of bytes sorted into name, number and negative number.
-ghost use Rattle.std.specs.Prelude.{◌≡◌, ◌&&◌, MatchResult, cond, nat_le, drop, Some, None};
+ghost use Rattle.std.specs.Prelude.{◌≡◌, ◌&&◌, MatchResult, if◌then◌else◌, nat_le, drop, Some, None};
 ghost use Rattle.mark.specs.Runs.{each, is_name, is_number, number_in, NumbersAreDecimals};
 ghost use Rattle.mark.specs.Tokens.{is_negative, sort_of, no_mark, IsTokenOf};
 ghost use Rattle.mark.specs.declared.cause.Cause.TheVariants.{NoMark};
@@ -66,7 +66,7 @@ pub fn number(run: &[u8]) -> Option<u32>
 
 // The number behind a minus, other than 0.
 fn negative(run: &[u8]) -> Option<u32>
-    ensures { result ≡ cond (is_negative run.now) (number_in (drop 1 run.now)) None }
+    ensures { result ≡ (if is_negative run.now then number_in (drop 1 run.now) else None) }
 {
     match run {
         [b'-', b'0', ..] => None,

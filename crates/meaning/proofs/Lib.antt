@@ -1,3 +1,4 @@
+-- Lemmas on what consoles were told, on sources, and on who gives a command.
 pub mod Agreement
 pub mod Answering
 pub mod Gathering

@@ -1,3 +1,4 @@
+-- What a meaning is asked, and what its parts leave or tell of a sequence.
 pub mod Agreeing
 pub mod Asked
 pub mod Compared

@@ -64,7 +64,8 @@ impl FromStr for Published {
     }
 }
 
-// By a match: a list of calls mixes meanings, an impl by a macro of ours and a `dyn` value handed out are refused.
+// By a match, since a list of calls may mix meanings: the gate refuses a function that returns a
+// `dyn` value, and an impl that a macro of ours writes.
 impl Meaning for Published {
     ghost meaning = { published_meaning };
 

@@ -20,10 +20,9 @@ impl<'a> Reach<'a> {
     pub(crate) fn giver(&self, command: u8) -> usize
         ensures { result ≡ giver_of self.now command }
     {
-        match self.owners.get(usize::from(command)) {
-            Some(console) => usize::from(*console),
-            None => 0,
-        }
+        self.owners
+            .get(usize::from(command))
+            .map_or(0, |console| usize::from(*console))
     }
 
     // Whether the giver of a command may affect `console`.

@@ -23,7 +23,8 @@ pub struct TransmittedActions;
 const MOST_PREFIXES: usize = MOST_COMPARED + 1;
 
 // What a console was told grows without bound, so none of it is built. A table over the prefixes
-// of both sequences holds who was told the same; a row of it is for one prefix of the left.
+// of both sequences holds who was told the same; a row of it is for one prefix of the left. Its
+// places are filled by index: each is made of its neighbours in both rows, which a push would name alike.
 type Row = [Members; MOST_PREFIXES];
 
 // A place of the table where `left` and `right` end the two prefixes, and its neighbours: without

@@ -1,3 +1,4 @@
+-- Sets, refusals, flows and lockouts, and what each call makes of a board.
 pub mod Members
 pub mod Refusals
 pub mod Rows

@@ -5,7 +5,7 @@ ghost use Rattle.policy.specs.Members.{holds};
 // how many numbers a set has room for
 const ROOM: usize = 32;
 
-// A set of numbers below 32, a bit for each: lockouts are one word, which is put back as a whole.
+// A set of numbers below 32, a bit for each. It is one word, so that it is copied and put back whole.
 #[derive(Clone, Copy, PartialEq, Eq, Debug)]
 pub struct Members {
     word: u32,

@@ -1,1 +1,2 @@
+-- What a question to the receiver of a sheet is answered.
 pub mod Answers

@@ -1,3 +1,4 @@
+-- The texts that programs print.
 pub mod Lines
 pub mod Transcripts
 pub mod Troubles

@@ -1,3 +1,4 @@
+-- Lemmas on reading and writing, and the proofs of the theorems.
 pub mod Blocks
 pub mod Cuts
 pub mod Dues

@@ -1,3 +1,4 @@
+-- What a sheet says, what its reader and writer answer, and the theorems on both.
 pub mod Faults
 pub mod Marks
 pub mod Plan

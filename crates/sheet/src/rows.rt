@@ -57,7 +57,8 @@ fn number_row(cursor: &mut Cursor, due: &[usize], most: usize) -> Result<usize, 
     cursor.ranged(0, most, b'\n')
 }
 
-// A row that begins with given numbers and ends with a display.
+// A row that begins with given numbers and ends with a display. A closure for what ends a row would
+// need a longer contract than this function and `number_row` have together.
 fn display_row<D: DisplayKind>(cursor: &mut Cursor, due: &[usize]) -> Result<D, MarkFault>
     ensures read { behind result cursor.new.at ≡ row_at due.now D.DisplayKind.reads cursor.old.sheet.now cursor.old.at }
     ensures sheet { cursor.new.sheet ≡ cursor.old.sheet }

@@ -1,3 +1,4 @@
+-- One blank more.
 use Rattle.std.proofs.Common.{[], ◌∷◌, ◌++◌, replicate, vec_items, ap, ◌∙◌}
 use Rattle.std.proofs.lemmas.List.{replicate_more}
 use Rattle.report.proofs.Appending.{then}

@@ -1,3 +1,4 @@
+-- The text so far has the blanks so far.
 use Rattle.std.proofs.Common.{◌≡◌, ◌++◌, replicate, vec_items}
 use Rattle.report.proofs.lines.push_blanks.Given as goal
 

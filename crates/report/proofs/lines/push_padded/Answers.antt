@@ -1,3 +1,4 @@
+-- Blanks, and then the word.
 use Rattle.std.proofs.Common.{◌++◌, replicate, vec_items, ap, ◌∙◌}
 use Rattle.report.proofs.Appending.{then}
 use Rattle.report.proofs.lines.push_padded.Goals as goal

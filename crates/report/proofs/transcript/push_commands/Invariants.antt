@@ -1,3 +1,4 @@
+-- The text so far has the lines of the commands so far.
 use Rattle.std.proofs.Common.{◌≡◌, ◌+◌, ◌++◌, drop, vec_items}
 use Rattle.policy.specs.Lockouts.{locks}
 use Rattle.report.specs.Transcripts.{lines}

@@ -1,3 +1,4 @@
+-- The text so far has the columns of the consoles so far.
 use Rattle.std.proofs.Common.{◌≡◌, ◌++◌, vec_items, codes, decimal}
 use Rattle.report.specs.Transcripts.{columns}
 use Rattle.report.proofs.transcript.push_console_names.Given as goal

@@ -1,3 +1,4 @@
+-- The text so far has the columns of the consoles so far.
 use Rattle.std.proofs.Common.{◌≡◌, ◌++◌, vec_items}
 use Rattle.theory.specs.Control.{display_of}
 use Rattle.report.specs.Transcripts.{columns}

@@ -1,3 +1,4 @@
+-- A corner whose neighbours are right says who is told the same there.
 use Rattle.std.proofs.Common.{◌≡◌, ◌∙◌, rules}
 use Rattle.policy.specs.Members.{holds}
 use Rattle.meaning.specs.Agreeing.{corner_alike}

@@ -1,3 +1,4 @@
+-- Every console is in the set of all.
 use Rattle.std.proofs.Common.{rules}
 use Rattle.meaning.proofs.reach.Reach.everyone.Goals as goal
 

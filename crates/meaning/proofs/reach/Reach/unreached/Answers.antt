@@ -1,3 +1,4 @@
+-- Who stays in the set is who was in it and is not reached.
 use Rattle.std.proofs.Common.{rules}
 use Rattle.meaning.proofs.reach.Reach.unreached.Goals as goal
 

@@ -1,3 +1,4 @@
+-- The rows that are filled so far say the self flows of their consoles, and no other flow.
 use Rattle.std.proofs.Common.{◌≡◌, ℕ, length}
 use Rattle.theory.specs.Flows.{bare_flows}
 use Rattle.policy.specs.Rows.{affects}
