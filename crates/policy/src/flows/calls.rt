@@ -21,7 +21,8 @@ impl Flows {
             return Err(Refusal::BoardLimits);
         }
         let mut rows = [Members::none(); MOST_CONSOLES];
-        // By index: `array::from_fn` leaves open what its closure has captured, `iter_mut().enumerate()` each row.
+        // By index: no invariant can name the rows while `iter_mut` lends them, and `array::from_fn`
+        // leaves open what its closure has captured.
         for u in 0..consoles {
             rows[u] = Members::none().with(u);
         }
