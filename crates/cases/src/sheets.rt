@@ -48,13 +48,23 @@ from to
 
 fn read_codes(sheet: &[u8]) -> Result<Found, Refusal> {
     let mut store = Codes::blank();
-    read::<Code>(sheet, &mut store.steps, &mut store.owners, &mut store.displays)
+    read::<Code>(
+        sheet,
+        &mut store.steps,
+        &mut store.owners,
+        &mut store.displays,
+    )
 }
 
 // Reads a sheet of codes, and writes what was read again.
 fn comes_back(sheet: &[u8], out: &mut [u8]) -> Result<usize, Refusal> {
     let mut store = Codes::blank();
-    let found = read::<Code>(sheet, &mut store.steps, &mut store.owners, &mut store.displays)?;
+    let found = read::<Code>(
+        sheet,
+        &mut store.steps,
+        &mut store.owners,
+        &mut store.displays,
+    )?;
     let table = store.table(found.counts, found.start)?;
     write(&table, &found.board, out)
 }

@@ -45,7 +45,9 @@ fn print_changes(rt: &HostRuntime, sheet: &mut [u8], at: usize) -> anyhow::Resul
 
 fn run(rt: &HostRuntime) -> anyhow::Result<()> {
     let mut sheet = Vec::new(rt.alloc());
-    rt.stdin().take(MOST_SHEET_BYTES as u64).read_to_end(&mut sheet)?;
+    rt.stdin()
+        .take(MOST_SHEET_BYTES as u64)
+        .read_to_end(&mut sheet)?;
     print_cuts(rt, sheet.as_slice())?;
     for at in 0..sheet.len() {
         print_changes(rt, sheet.as_mut_slice(), at)?;
