@@ -57,7 +57,9 @@ fn entry(store: &[u8], at: usize) -> usize
 fn display_at<D: DisplayKind>(store: &[D::Cell], at: usize) -> D
     ensures { result ≡ slice_index_or (map D.DisplayKind.stored store.now) at D.DisplayKind.zero }
 {
-    store.get(at).map_or_else(|| D::zero(), |cell| D::from_cell(*cell))
+    store
+        .get(at)
+        .map_or_else(|| D::zero(), |cell| D::from_cell(*cell))
 }
 
 impl<'a, D: DisplayKind> Table<'a, D> {

@@ -81,15 +81,6 @@ struct Asked {
     sheet: Vec<u8>,
 }
 
-fn meaning_named(word: &str) -> anyhow::Result<Published> {
-    match word {
-        "P" => Ok(Published::P),
-        "IP" => Ok(Published::Ip),
-        "TA" => Ok(Published::Ta),
-        _ => Err(anyhow!("a meaning is P, IP or TA")),
-    }
-}
-
 fn number(word: &str) -> anyhow::Result<u8> {
     match word.parse::<u8>() {
         Ok(number) => Ok(number),
@@ -110,7 +101,7 @@ fn take_word(rt: &HostRuntime, asked: &mut Asked, next: Next, word: &str) -> any
             Ok(Next::First)
         }
         (_, Next::Meaning) => {
-            asked.meaning = Some(meaning_named(word)?);
+            asked.meaning = Some(word.parse::<Published>()?);
             Ok(Next::Console)
         }
         (_, Next::Console) => {
