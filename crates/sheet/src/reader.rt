@@ -32,6 +32,7 @@ fn first_block<D: DisplayKind>(cursor: &mut Cursor) -> Result<Heading, SheetFaul
 }
 
 // Writes what a row says where it belongs.
+// No struct of the three tables: that it fits in memory does not follow from a lent slice of cells.
 fn keep<D: DisplayKind>(
     due: Due,
     entry: Entry<D>,
