@@ -1,5 +1,5 @@
 -- The stores are filled from their front, entry by entry, as the rows say.
-use Rattle.std.proofs.Common.{◌≡◌, ℕ, suc, ◌+◌, ◌*◌, ◌<◌, Bool, true, false, cond, ltb, leb, List, [], ◌∷◌, ◌++◌, map, length, take, drop, set, Some, None, Ok, Err, Option, Result, sym, refl, ap, ◌∙◌, subst, add-one, arith}
+use Rattle.std.proofs.Common.{◌≡◌, ℕ, suc, ◌+◌, ◌*◌, ◌<◌, Bool, true, false, cond, ltb, leb, List, [], ◌∷◌, ◌++◌, map, length, drop, set, Some, Ok, Err, Option, Result, sym, refl, ap, ◌∙◌, add-one, arith}
 use Rattle.std.proofs.lemmas.Nat.{mul-le}
 use Rattle.std.proofs.lemmas.List.{append_assoc, append-nil, drop_at, drop-drop, length-append, length-drop, length-map, length_push, map-append, set_split, take_at}
 use Rattle.std.proofs.lemmas.Bool.{and_parts, leb-true, ltb-false}
@@ -11,8 +11,8 @@ use Rattle.sheet.specs.Faults.{on}
 use Rattle.sheet.specs.Reading.{Entries, Value, nothing, owned, stepped, showed, with_value, no_entries, plan_of}
 use Rattle.sheet.specs.Due.{Within, Stands, next_due}
 use Rattle.sheet.specs.Entries.{counted, value_of, Kinded}
-use Rattle.sheet.specs.Passes.{Ready, Stepped, Faulted, left_at, line_behind, started}
-use Rattle.sheet.specs.Stores.{Holds, steps_with, owners_with, displays_with, steps_done, owners_done, displays_done, joined, FrontBy}
+use Rattle.sheet.specs.Passes.{Ready, Stepped, left_at, line_behind, started}
+use Rattle.sheet.specs.Stores.{Holds, steps_with, owners_with, displays_with, steps_done, owners_done, displays_done, joined}
 use Rattle.sheet.specs.declared.due.Block.{Block}
 use Rattle.sheet.specs.declared.due.Block.TheVariants as block
 use Rattle.sheet.specs.declared.due.Due.{Due}
@@ -23,7 +23,7 @@ use Rattle.sheet.specs.declared.progress.Progress.{Progress}
 use Rattle.sheet.specs.declared.heading.Heading.{Heading}
 use Rattle.sheet.specs.declared.rows.Entry.{Entry}
 use Rattle.sheet.specs.declared.rows.Entry.TheVariants.{Nothing, Owner, Step, Shown}
-use Rattle.sheet.proofs.Passed.{pass_end, pass_last, pass_lines}
+use Rattle.sheet.proofs.Passed.{pass_lines}
 
 -- one entry more in front
 overwritten_more : {A : Type 0} (front store : List A) (n : ℕ) (w : A) → length front ≡ n → n < length store → set (overwritten front store) n w ≡ overwritten (front ++ (w ∷ [])) store
@@ -197,50 +197,6 @@ module _ {D C : Type 0} (reads : List ℕ → Result D Cause) (h : Heading) (cel
           displays_hold = ed ∙ ap (displays_with cell d v) l.displays_hold ∙ displays_kept h.counts (length steps₀) (length owners₀) cell l.so_far.displays displays₀ d v room nd k;
           rest = l.rest ∙ ap (λ R. on {A = Entries D × ℕ} {B = Entries D × ℕ} R (λ z. Ok (joined l.so_far z.0, z.1))) t.more ∙ moved l.so_far (value_of v) (left_at reads h q);
         }
-
-    pub filling_fault : (f : SheetFault) → Faulted reads h p f → W ≡ Err f
-    filling_fault f e = l.rest ∙ ap (λ R. on {A = Entries D × ℕ} {B = Entries D × ℕ} R (λ z. Ok (joined l.so_far z.0, z.1))) e
-
-    pub filling_end : p.due ≡ None → W ≡ Ok (l.so_far, p.cursor.at)
-    filling_end e =
-        l.rest
-        ∙ ap (λ R. on {A = Entries D × ℕ} {B = Entries D × ℕ} R (λ z. Ok (joined l.so_far z.0, z.1))) (pass_end reads h p e)
-        ∙ ap (λ (d : Entries D). Ok (d, p.cursor.at)) (entries_same _ _ (append-nil l.so_far.owners) (append-nil l.so_far.steps) (append-nil l.so_far.displays))
-
--- what all rows say, once they are read or one of them is at fault
-module _ {D A : Type 0} (entries : Entries D → List A) (W : Result (Entries D × ℕ) SheetFault) (many : ℕ) where
-  front_read : (store rest : List A) (e : Entries D) (j : ℕ) → W ≡ Ok (e, j) → length (entries e) ≡ many → store ≡ entries e ++ rest → FrontBy entries W many store
-  front_read store rest e j w n s = subst (λ (V : Result (Entries D × ℕ) SheetFault). FrontBy entries V many store) (sym w) (ap (take many) s ∙ take_at (entries e) rest many n)
-
-  front_none : (store : List A) (f : SheetFault) → W ≡ Err f → FrontBy entries W many store
-  front_none store f w = subst (λ (V : Result (Entries D × ℕ) SheetFault). FrontBy entries V many store) (sym w) tt
-
--- the fronts of the stores
-module _ {D C : Type 0} (h : Heading) (cell : D → C) (W : Result (Entries D × ℕ) SheetFault) where
-  pub record Fronts (in_steps in_owners : List ℕ) (in_displays : List C) : Type 0 where
-    pub steps : FrontBy (λ e. e.steps) W (h.counts.states * h.counts.commands) in_steps
-    pub owners : FrontBy (λ e. e.owners) W h.counts.commands in_owners
-    pub displays : FrontBy (λ e. map cell e.displays) W (h.counts.states * h.counts.consoles) in_displays
-
-  pub fronts_none : (steps owners : List ℕ) (displays : List C) (f : SheetFault) → W ≡ Err f → Fronts steps owners displays
-  fronts_none steps owners displays f w = record {
-    steps = front_none (λ e. e.steps) W _ steps f w;
-    owners = front_none (λ e. e.owners) W _ owners f w;
-    displays = front_none (λ e. map cell e.displays) W _ displays f w;
-  }
-
-module _ {D C : Type 0} (reads : List ℕ → Result D Cause) (h : Heading) (cell : D → C) (W : Result (Entries D × ℕ) SheetFault) (steps₀ owners₀ : List ℕ) (displays₀ : List C) (p : Progress) (steps owners : List ℕ) (displays : List C) (l : Filling reads h cell W steps₀ owners₀ displays₀ p steps owners displays) where
-  pub filled_line : p.due ≡ None → Ok (p.line, p.cursor.at) ≡ on {B = ℕ × ℕ} W (λ z. Ok (3 + length (plan_of (counted h)), z.1))
-  filled_line e = ap (λ m. Ok (m, p.cursor.at)) (sym (pass_last reads h p e) ∙ l.lines) ∙ ap (λ R. on {B = ℕ × ℕ} R (λ z. Ok (3 + length (plan_of (counted h)), z.1))) (sym (filling_end reads h cell W steps₀ owners₀ displays₀ p steps owners displays l e))
-
-  pub filled_fronts : p.due ≡ None → Fronts h cell W steps owners displays
-  filled_fronts e =
-      let w = filling_end reads h cell W steps₀ owners₀ displays₀ p steps owners displays l e in
-      record {
-        steps = front_read (λ e. e.steps) W _ steps _ l.so_far p.cursor.at w (l.steps_many ∙ ap (steps_done h.counts) e) l.steps_hold;
-        owners = front_read (λ e. e.owners) W _ owners _ l.so_far p.cursor.at w (l.owners_many ∙ ap (owners_done h.counts) e) l.owners_hold;
-        displays = front_read (λ e. map cell e.displays) W _ displays _ l.so_far p.cursor.at w (length-map l.so_far.displays cell ∙ l.displays_many ∙ ap (displays_done h.counts) e) l.displays_hold;
-      }
 
 -- stores that suffice have a place for every row
 module _ (c : Counts) (w : Within c) (a b d a' b' d' : ℕ) (room : store_suffices a b d ≡ true) (p : a' ≡ a) (q : b' ≡ b) (r : d' ≡ d) where

@@ -8,6 +8,7 @@ use Rattle.sheet.specs.Reading.{Counted, Entries, names_at, counts_at, rows_at, 
 use Rattle.sheet.specs.declared.due.Due.{Due}
 use Rattle.sheet.specs.declared.due.Due.TheVariants as due
 use Rattle.sheet.specs.declared.heading.Heading.{Heading}
+use Rattle.sheet.specs.declared.marks.Cursor.{Cursor}
 use Rattle.sheet.specs.declared.fault.SheetFault.{SheetFault}
 use Rattle.sheet.specs.declared.rows.Entry.{Entry}
 use Rattle.sheet.specs.declared.rows.Entry.TheVariants.{Nothing, Owner, Step, Shown}
@@ -23,9 +24,9 @@ headed (Err f) = Err f
 abbrev pub first_at : List ℕ → List ℕ → ℕ → Result (Counted × ℕ) SheetFault
 first_at kind sheet i = on (on_line 1 1 (names_at (names_in counts_title) sheet i)) (λ j. on_line 2 1 (counts_at kind sheet j))
 
--- the rows behind it, from place i on
-abbrev pub rows_behind : {D : Type 0} → (List ℕ → Result D Cause) → Heading → List ℕ → ℕ → Result (Entries D × ℕ) SheetFault
-rows_behind reads h sheet i = rows_at reads (counted h) sheet (plan_of (counted h)) 3 i
+-- the rows behind it, from the place of a cursor on
+abbrev pub rows_behind : {D : Type 0} → (List ℕ → Result D Cause) → Heading → Cursor → Result (Entries D × ℕ) SheetFault
+rows_behind reads h a = rows_at reads (counted h) a.sheet.now (plan_of (counted h)) 3 a.at
 
 abbrev pub value_of : {D : Type 0} → Entry D → Value D
 value_of Nothing = nothing

@@ -32,6 +32,7 @@ fn first_block<D: DisplayKind>(cursor: &mut Cursor) -> Result<Heading, SheetFaul
 }
 
 // Writes what a row says where it belongs.
+// No struct of the three tables: that it fits in memory does not follow from a lent slice of cells.
 fn keep<D: DisplayKind>(
     due: Due,
     entry: Entry<D>,
@@ -62,11 +63,11 @@ fn fill<D: DisplayKind>(
     displays: &mut [D::Cell],
 ) -> Result<usize, SheetFault>
     requires { store_suffices (length steps.old) (length owners.old) (length displays.old) ≡ true }
-    ensures read { behind result cursor.new.at ≡ on (rows_behind D.DisplayKind.reads heading.now cursor.old.sheet.now cursor.old.at) (λ z. Ok (3 + length (plan_of (counted heading.now)), z.1)) }
+    ensures read { behind result cursor.new.at ≡ on (rows_behind D.DisplayKind.reads heading.now cursor.old) (λ z. Ok (3 + length (plan_of (counted heading.now)), z.1)) }
     ensures sheet { cursor.new.sheet ≡ cursor.old.sheet }
-    ensures steps { FrontBy (λ e. e.steps) (rows_behind D.DisplayKind.reads heading.now cursor.old.sheet.now cursor.old.at) (heading.now.counts.states * heading.now.counts.commands) steps.new }
-    ensures owners { FrontBy (λ e. e.owners) (rows_behind D.DisplayKind.reads heading.now cursor.old.sheet.now cursor.old.at) heading.now.counts.commands owners.new }
-    ensures displays { FrontBy (λ e. map D.DisplayKind.cell e.displays) (rows_behind D.DisplayKind.reads heading.now cursor.old.sheet.now cursor.old.at) (heading.now.counts.states * heading.now.counts.consoles) displays.new }
+    ensures steps { FrontBy (λ e. e.steps) (rows_behind D.DisplayKind.reads heading.now cursor.old) (heading.now.counts.states * heading.now.counts.commands) steps.new }
+    ensures owners { FrontBy (λ e. e.owners) (rows_behind D.DisplayKind.reads heading.now cursor.old) heading.now.counts.commands owners.new }
+    ensures displays { FrontBy (λ e. map D.cell e.displays) (rows_behind D.DisplayKind.reads heading.now cursor.old) (heading.now.counts.states * heading.now.counts.consoles) displays.new }
 {
     let mut progress = Progress::start(*cursor);
     while let Some((due, entry)) = progress.next::<D>(heading)? {
