@@ -1,5 +1,5 @@
 -- What a likeness that was not refused says.
-use Rattle.std.proofs.Common.{◌≡◌, ℕ, Bool, true, false, cond, ◌&&◌, eqb, ltb, leb, List, length, Ok, Err, Result, arith}
+use Rattle.std.proofs.Common.{◌≡◌, ℕ, Bool, true, false, cond, ◌&&◌, ltb, leb, List, length, Ok, Err, Result, arith}
 use Rattle.policy.specs.declared.refusal.Refusal.{Refusal}
 use Rattle.theory.specs.Boards.{BoardValue}
 use Rattle.theory.specs.Control.{ControlValue, owner_of}

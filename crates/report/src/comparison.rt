@@ -49,7 +49,7 @@ fn push_outcome<C: Control>(
     which: &str,
     sequence: &[u8],
 ) -> io::Result<()>
-    ensures { OnOk result (text.new.items ≡ text.old.items ++ outcome C.Display.DisplayKind.marked (C.Control.value seen.now.control.now) (locks seen.now.lockouts.now) seen.now.console which.now sequence.now) }
+    ensures { OnOk result (text.new.items ≡ text.old.items ++ outcome C.Display.marked (C.value seen.now.control.now) (locks seen.now.lockouts.now) seen.now.console which.now sequence.now) }
 {
     let state = walk(seen.control, seen.lockouts, sequence);
     let mark = seen.control.display(state, seen.console).mark();

@@ -17,7 +17,8 @@ fn push_flow(text: &mut String, flows: &Flows, from: usize, to: usize) -> Result
     Ok(())
 }
 
-// The flows from one console.
+// The flows from one console. Plain loops, here and for who may affect a console: a function that
+// took the piece of text as a closure would have a longer contract than each loop.
 fn push_flows_from(text: &mut String, flows: &Flows, from: usize) -> Result<(), AllocError>
     ensures { OnOk result (string_bytes text.new ≡ string_bytes text.old ++ flow_lines (may_affect flows.now) (consoles_of flows.now) from) }
 {
