@@ -10,7 +10,8 @@ use theory::limits::MOST_CONSOLES;
 pub mod calls;
 
 // For each console the consoles that it may affect. Every console may affect itself, and no
-// entry lies beyond the number of consoles.
+// entry lies beyond the number of consoles. The rows are an array with room for the most consoles,
+// since a board is copied and lies in fixed memory.
 #[derive(Clone, Copy)]
 pub struct Flows {
     consoles: usize,

@@ -50,7 +50,8 @@ pub struct Told {
 }
 
 impl Told {
-    // A refusal that tells no place, line or block.
+    // A refusal that tells no place, line or block. A site is told refusals by number, and the numbers
+    // stand here alone.
     fn number_alone(number: usize) -> Told
         ensures { result ≡ number_alone number }
     {

@@ -19,6 +19,7 @@ use std::alloc::Global;
 use std::io;
 use std::io::Write;
 
+// `alike` is the yes or no that likeness answers; the text has a word for each.
 fn push_verdict(
     text: &mut Vec<u8>,
     meaning: Published,
@@ -62,7 +63,7 @@ fn push_outcome<C: Control>(
 }
 
 // Whether two sequences are alike for a console under a meaning, and what the console shows
-// after each; refused as the question itself is.
+// after each; refused as the question itself is. It is bytes, as the marks in it are.
 pub fn comparison<C: Control>(
     heap: Global,
     board: &Board,

@@ -4,6 +4,7 @@ ghost use Rattle.report.specs.Lines.{padded};
 
 use std::alloc::AllocError;
 
+// One by one, since a mark is bytes and `{:>12}` pads texts alone.
 fn push_blanks(text: &mut Vec<u8>, count: usize) -> Result<(), AllocError>
     ensures { OnOk result (text.new.items ≡ text.old.items ++ replicate count 32) }
 {

@@ -73,6 +73,7 @@ fn push_start<C: Control>(text: &mut Vec<u8>, control: &C) -> io::Result<()>
     push_state(text, control, control.start())
 }
 
+// The word for what lockouts answer of a command, which is a yes or no.
 fn effect(locked: bool) -> &'static str
     ensures { result.now ≡ effect_of locked }
 {
@@ -132,7 +133,8 @@ fn push_commands<C: Control>(
     writeln!(text, "closing state {state}")
 }
 
-// The transcript of a sequence under a board's lockouts, refused as replay refuses it.
+// The transcript of a sequence under a board's lockouts, refused as replay refuses it. It is bytes
+// and no `String`, since the marks in it are bytes.
 pub fn transcript<C: Control>(
     heap: Global,
     board: &Board,
