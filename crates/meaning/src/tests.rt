@@ -11,22 +11,23 @@ use std::test::Fail;
 // Command c belongs to console c.
 const OWNERS: [u8; 4] = [0, 1, 2, 3];
 
+// Each pair's first console may affect its second.
+fn flows(consoles: usize, pairs: &[(usize, usize)]) -> Result<Flows, Refusal> {
+    let mut flows = Flows::bare(consoles)?;
+    for (from, to) in pairs {
+        flows.allow(*from, *to)?;
+    }
+    Ok(flows)
+}
+
 // Console 0 may affect console 1, and that one console 2.
 fn chain() -> Result<Flows, Refusal> {
-    let mut flows = Flows::bare(3)?;
-    flows.allow(0, 1)?;
-    flows.allow(1, 2)?;
-    Ok(flows)
+    flows(3, &[(0, 1), (1, 2)])
 }
 
 // Two chains that meet in console 4: from 0 by way of 2, and from 1 by way of 3.
 fn two_chains() -> Result<Flows, Refusal> {
-    let mut flows = Flows::bare(5)?;
-    flows.allow(0, 2)?;
-    flows.allow(1, 3)?;
-    flows.allow(2, 4)?;
-    flows.allow(3, 4)?;
-    Ok(flows)
+    flows(5, &[(0, 2), (1, 3), (2, 4), (3, 4)])
 }
 
 #[test]

@@ -1,5 +1,5 @@
 // TA, the order-aware meaning: two sequences are alike where a console was told the same of both, in the same order.
-ghost use Rattle.std.specs.Prelude.{◌≡◌, ℕ, ◌<◌, ◌≤◌, true, List, [], ◌∷◌, ◌++◌, not, ◌&&◌};
+ghost use Rattle.std.specs.Prelude.{◌≡◌, ℕ, ◌+◌, ◌<◌, ◌≤◌, true, List, [], ◌∷◌, ◌++◌, length, not, ◌&&◌};
 ghost use Rattle.policy.specs.Flows.{consoles_of};
 ghost use Rattle.policy.specs.Members.{holds};
 ghost use Rattle.links.specs.Three.{transmitted_meaning};
@@ -13,6 +13,7 @@ use crate::intransitive_purge::IntransitivePurge;
 use crate::meaning::Meaning;
 use crate::range::all_there;
 use crate::reach::Reach;
+use arrayvec::ArrayVec;
 use policy::flows::Flows;
 use policy::members::Members;
 
@@ -23,9 +24,9 @@ pub struct TransmittedActions;
 const MOST_PREFIXES: usize = MOST_COMPARED + 1;
 
 // What a console was told grows without bound, so none of it is built. A table over the prefixes
-// of both sequences holds who was told the same; a row of it is for one prefix of the left. Its
-// places are filled by index: each is made of its neighbours in both rows, which a push would name alike.
-type Row = [Members; MOST_PREFIXES];
+// of both sequences holds who was told the same; a row of it is for one prefix of the left, with a
+// place for each prefix of the right.
+type Row = ArrayVec<Members, MOST_PREFIXES>;
 
 // A place of the table where `left` and `right` end the two prefixes, and its neighbours: without
 // the last command of the left, of the right, and of both.
@@ -80,29 +81,39 @@ impl<'a> Reach<'a> {
 
     // The row before any command of the left.
     fn first_row(&self, right: &Compared) -> Row
-        ensures { RowOf self.now [] right.now.commands.now result }
+        ensures places { length result.items ≡ length right.now.commands.now + 1 }
+        ensures sets { RowOf self.now [] right.now.commands.now result.items }
     {
-        let mut row = [self.everyone(); MOST_PREFIXES];
-        for (j, command) in right.commands.iter().enumerate() {
-            row[j + 1] = self.unreached(*command, row[j]);
+        let mut row = Row::new();
+        let mut agreeing = self.everyone();
+        row.push(agreeing);
+        for command in right.commands {
+            agreeing = self.unreached(*command, agreeing);
+            row.push(agreeing);
         }
         row
     }
 
-    // The row with one command more of the left.
-    fn next_row(&self, command: u8, right: &Compared, above: &Row) -> Row
-        ensures { (p : List ℕ) → RowOf self.now p right.now.commands.now above.now → RowOf self.now (p ++ (command ∷ [])) right.now.commands.now result }
+    // The row with one command more of the left, made of the row before it.
+    fn next_row(&self, command: u8, right: &Compared, before: &[Members]) -> Row
+        requires { length before.now ≡ length right.now.commands.now + 1 }
+        ensures places { length result.items ≡ length right.now.commands.now + 1 }
+        ensures sets { (p : List ℕ) → RowOf self.now p right.now.commands.now before.now → RowOf self.now (p ++ (command ∷ [])) right.now.commands.now result.items }
     {
-        let mut row = [self.unreached(command, above[0]); MOST_PREFIXES];
-        for (j, other) in right.commands.iter().enumerate() {
-            let corner = Corner {
+        let mut row = Row::new();
+        let mut across = before[0];
+        let mut beside = self.unreached(command, across);
+        row.push(beside);
+        for (other, above) in right.commands.iter().zip(&before[1..]) {
+            beside = self.agreeing_at(Corner {
                 left: command,
                 right: *other,
-                above: above[j + 1],
-                beside: row[j],
-                across: above[j],
-            };
-            row[j + 1] = self.agreeing_at(corner);
+                above: *above,
+                beside,
+                across,
+            });
+            row.push(beside);
+            across = *above;
         }
         row
     }

@@ -6,7 +6,7 @@ ghost use Rattle.policy.specs.Members.{holds};
 const ROOM: usize = 32;
 
 // A set of numbers below 32, a bit for each. It is one word, so that it is copied and put back whole.
-#[derive(Clone, Copy, PartialEq, Eq, Debug)]
+#[derive(Clone, Copy, PartialEq, Eq, Debug, Default)]
 pub struct Members {
     word: u32,
 }
@@ -15,7 +15,7 @@ impl Members {
     pub fn none() -> Members
         ensures { (j : ℕ) → holds result j ≡ false }
     {
-        Members { word: 0 }
+        Members::default()
     }
 
     #[tactic(auto, using(std::proofs::lemmas::Nat::Bits::shr_and_one))]

@@ -1,34 +1,36 @@
--- The next row is right, set by set.
-use Rattle.std.proofs.Common.{◌+◌, [], ◌∷◌, ◌++◌, get_or, take, replicate, refl, ◌∙◌, arith, length-set}
-use Rattle.std.proofs.lemmas.List.{take_more}
+-- One set more is that of the corner of one command more.
+use Rattle.std.proofs.Common.{◌≡◌, ◌+◌, [], ◌∷◌, ◌++◌, get_or, length, take, sym, ap, ◌∙◌, arith}
+use Rattle.std.specs.List.{slice_range}
+use Rattle.std.proofs.lemmas.List.{take_more, length_push}
+use Rattle.std.proofs.lemmas.List.Edits.{get_or-between}
+use Rattle.std.proofs.lemmas.Slice.Zip.{zip_turn}
 use Rattle.policy.specs.Rows.{nobody}
 use Rattle.meaning.specs.Agreeing.{AgreeingSet}
-use Rattle.meaning.proofs.Agreement.{agreeing_left}
-use Rattle.meaning.proofs.Passing.{row_none, row_more}
+use Rattle.meaning.proofs.Passing.{row_more}
 use Rattle.meaning.proofs.reach.Reach.next_row.Goals as goal
 
-pub loop-j-init : goal.loop-j-init
-loop-j-init c =
-    let self = c.args.self.now in (
-      refl,
-      λ p above.
-          row_none (λ k set. AgreeingSet self (p ++ (c.args.command ∷ [])) (take k c.args.right.now.commands.now) set) (replicate 65 c.unreached-row.result)
-          (agreeing_left self (get_or c.args.above.now 0 nobody) c.unreached-row.result c.args.command c.unreached-row.ensures p (above 0 (omega arith))),
-    )
-
-pub loop-j-preserved : goal.loop-j-preserved
-loop-j-preserved c =
+pub loop-other-preserved : goal.loop-other-preserved
+loop-other-preserved c =
     let self = c.args.self.now in
     let right = c.args.right.now.commands.now in
+    let before = c.args.before.now in
     let a = c.args.command in
-    let row = c.loop-j.row in
-    let j = c.loop-j.j in
-    let one_more = take_more right j 0 (omega arith) in (
-      length-set _ _ _ ∙ c.loop-j.invariant.0,
+    let so_far = c.loop-other.yielded in
+    let j = length so_far in
+    let held = c.loop-other.invariant in
+    let set = c.agreeing_at-beside.result in
+    let longer = length_push so_far (c.in-Some.other, c.in-Some.above) in
+    let turn = zip_turn right (slice_range before 1 (length before)) so_far _ _ c.next.new.self _ (cc) (cc) c.loop-other.yielded_by _ c.in-Some.is c.next.ensures.steps in
+    let over : c.in-Some.above.now ≡ get_or before (j + 1) nobody =
+    turn.3 nobody ∙ get_or-between before 1 (length before) j nobody (omega (arith, turn.0, c.requires)) ∙ ap (λ k. get_or before k nobody) (omega arith) in
+    let grown : take (j + 1) right ≡ take j right ++ c.in-Some.other.now ∷ [] = rw (turn.2 0) (take_more right j 0 turn.0) in (
+      omega (arith, c.push-in-loop-other.ensures.len, longer),
+      rw longer over,
       λ p above.
-          let before = c.loop-j.invariant.1 p above in
-          row_more (λ k set. AgreeingSet self (p ++ (a ∷ [])) (take k right) set) row j c.agreeing_at.result (omega arith) before
-          (rw one_more
-          (c.agreeing_at.ensures p (take j right)
-          record { above = rw one_more at (above (j + 1) (omega arith)); beside = before j (omega arith); across = above j (omega arith) })),
+          let told : AgreeingSet self (p ++ a ∷ []) (take (j + 1) right) set = rw grown
+          (c.agreeing_at-beside.ensures p (take j right)
+          record { above = rw (sym grown, over) (above (j + 1) (omega (arith, turn.0))); beside = (held.2 p above).0; across = rw held.1 (above j (omega (arith, turn.0))) }) in (
+            rw longer told,
+            rw (longer, c.push-in-loop-other.ensures.items) (row_more (λ k s. AgreeingSet self (p ++ a ∷ []) (take k right) s) c.loop-other.row.items j set held.0 (held.2 p above).1 told),
+          ),
     )
