@@ -27,7 +27,7 @@ fn first_block<D: DisplayKind>(cursor: &mut Cursor) -> Result<Heading, SheetFaul
     ensures read { headed (behind result cursor.new.at) ≡ first_at D.DisplayKind.kind cursor.old.sheet.now cursor.old.at }
     ensures sheet { cursor.new.sheet ≡ cursor.old.sheet }
 {
-    rows::counts_title(cursor).map_err(|fault| fault.on_line(1).in_block(1))?;
+    cursor.names(&rows::COUNTS).map_err(|fault| fault.on_line(1).in_block(1))?;
     rows::counts_row::<D>(cursor).map_err(|fault| fault.on_line(2).in_block(1))
 }
 

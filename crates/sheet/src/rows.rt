@@ -1,5 +1,5 @@
 // Rows: what one line of a sheet says.
-ghost use Rattle.std.specs.Prelude.{◌≡◌, ◌-◌, ◌<◌, ◌≤◌, IfOk};
+ghost use Rattle.std.specs.Prelude.{◌≡◌, ◌-◌, ◌<◌, ◌≤◌, map, IfOk};
 ghost use Rattle.theory.specs.Limits.{Count};
 ghost use Rattle.sheet.specs.Marks.{number_reads};
 ghost use Rattle.sheet.specs.Faults.{behind, place_behind};
@@ -34,16 +34,18 @@ const DISPLAYS: [&[u8]; 3] = [b"state", b"console", b"display"];
 
 const FLOWS: [&[u8]; 2] = [b"from", b"to"];
 
+// the names of the first block, which no row of `Due` heads
+pub(crate) const COUNTS: [&[u8]; 5] = [b"states", b"commands", b"consoles", b"start", b"display"];
+
 // The names that head a block.
-fn title(cursor: &mut Cursor, block: Block) -> Result<(), MarkFault>
-    ensures read { place_behind result cursor.new.at ≡ names_at (names_in (title_of block)) cursor.old.sheet.now cursor.old.at }
-    ensures sheet { cursor.new.sheet ≡ cursor.old.sheet }
+fn names(block: Block) -> &'static [&'static [u8]]
+    ensures { map (λ x. x.now) result.now ≡ names_in (title_of block) }
 {
     match block {
-        Block::Owners => cursor.names(&OWNERS),
-        Block::Steps => cursor.names(&STEPS),
-        Block::Displays => cursor.names(&DISPLAYS),
-        Block::Flows => cursor.names(&FLOWS),
+        Block::Owners => &OWNERS,
+        Block::Steps => &STEPS,
+        Block::Displays => &DISPLAYS,
+        Block::Flows => &FLOWS,
     }
 }
 
@@ -80,7 +82,7 @@ pub(crate) fn row<D: DisplayKind>(
     let counts = heading.counts;
     match due {
         Due::Title(block) => {
-            title(cursor, block)?;
+            cursor.names(names(block))?;
             Ok(Entry::Nothing)
         }
         Due::Owner(command) => {
@@ -97,16 +99,6 @@ pub(crate) fn row<D: DisplayKind>(
             Ok(Entry::Shown(display_row(cursor, &leads)?))
         }
     }
-}
-
-const COUNTS: [&[u8]; 5] = [b"states", b"commands", b"consoles", b"start", b"display"];
-
-// The names of the first block.
-pub(crate) fn counts_title(cursor: &mut Cursor) -> Result<(), MarkFault>
-    ensures read { place_behind result cursor.new.at ≡ names_at (names_in counts_title) cursor.old.sheet.now cursor.old.at }
-    ensures sheet { cursor.new.sheet ≡ cursor.old.sheet }
-{
-    cursor.names(&COUNTS)
 }
 
 // The row of the first block: three counts, a start among the states, and the kind's name.
