@@ -1,11 +1,9 @@
 // Rows: what one line of a sheet says.
 ghost use Rattle.std.specs.Prelude.{◌≡◌, ◌-◌, ◌<◌, ◌≤◌, map, IfOk};
 ghost use Rattle.theory.specs.Limits.{Count};
-ghost use Rattle.sheet.specs.Marks.{number_reads};
-ghost use Rattle.sheet.specs.Faults.{behind, place_behind};
-ghost use Rattle.sheet.specs.Reading.{names_at, row_at, counts_at, value_at};
+ghost use Rattle.sheet.specs.Faults.{behind};
+ghost use Rattle.sheet.specs.Reading.{counts_at, value_at};
 ghost use Rattle.sheet.specs.Due.{Stands, names_in, title_of, row_of};
-ghost use Rattle.sheet.specs.Plan.{counts_title};
 ghost use Rattle.sheet.specs.Entries.{counted, headed, told, Kinded};
 
 use crate::due::{Block, Due};
@@ -49,26 +47,6 @@ fn names(block: Block) -> &'static [&'static [u8]]
     }
 }
 
-// A row that begins with given numbers and ends with a number up to `most`.
-fn number_row(cursor: &mut Cursor, due: &[usize], most: usize) -> Result<usize, MarkFault>
-    ensures read { behind result cursor.new.at ≡ row_at due.now (number_reads 0 most) cursor.old.sheet.now cursor.old.at }
-    ensures sheet { cursor.new.sheet ≡ cursor.old.sheet }
-    ensures bound { IfOk result (λ n. n ≤ most) }
-{
-    cursor.exacts(due)?;
-    cursor.ranged(0, most, b'\n')
-}
-
-// A row that begins with given numbers and ends with a display. A closure for what ends a row would
-// need a longer contract than this function and `number_row` have together.
-fn display_row<D: DisplayKind>(cursor: &mut Cursor, due: &[usize]) -> Result<D, MarkFault>
-    ensures read { behind result cursor.new.at ≡ row_at due.now D.DisplayKind.reads cursor.old.sheet.now cursor.old.at }
-    ensures sheet { cursor.new.sheet ≡ cursor.old.sheet }
-{
-    cursor.exacts(due)?;
-    cursor.display()
-}
-
 // The row that is due.
 pub(crate) fn row<D: DisplayKind>(
     cursor: &mut Cursor,
@@ -86,17 +64,18 @@ pub(crate) fn row<D: DisplayKind>(
             Ok(Entry::Nothing)
         }
         Due::Owner(command) => {
-            let console = number_row(cursor, &[command], counts.consoles - 1)?;
+            cursor.exacts(&[command])?;
+            let console = cursor.ranged(0, counts.consoles - 1, b'\n')?;
             Ok(Entry::Owner(console as u8))
         }
         Due::Step(number) => {
-            let leads = [number / counts.commands, number % counts.commands];
-            let next = number_row(cursor, &leads, counts.states - 1)?;
+            cursor.exacts(&[number / counts.commands, number % counts.commands])?;
+            let next = cursor.ranged(0, counts.states - 1, b'\n')?;
             Ok(Entry::Step(next as u8))
         }
         Due::Shown(number) => {
-            let leads = [number / counts.consoles, number % counts.consoles];
-            Ok(Entry::Shown(display_row(cursor, &leads)?))
+            cursor.exacts(&[number / counts.consoles, number % counts.consoles])?;
+            Ok(Entry::Shown(cursor.display()?))
         }
     }
 }
