@@ -115,19 +115,19 @@ impl<'a> Cursor<'a> {
     }
 
     // What the run that begins here is read as, and the byte behind it.
-    fn item<T: Copy, F: FnOnce(&[u8]) -> Result<T, Cause>>(
+    fn item<T: Copy, F: FnOnce(&[u8], usize) -> Result<T, Cause>>(
         &mut self,
         read: F,
         then: u8,
     ) -> Result<T, MarkFault>
         requires { F.IsAlwaysCallable read }
-        ensures read { (reads : _) → ((run : _) (r : _) → F.post read run r → r ≡ reads run.now) → behind result self.new.at ≡ item_at reads then self.old.sheet.now self.old.at }
+        ensures read { (reads : _) → ((run : _) (at : _) (r : _) → F.post read run at r → r ≡ reads run.now) → behind result self.new.at ≡ item_at reads then self.old.sheet.now self.old.at }
         ensures sheet { self.new.sheet ≡ self.old.sheet }
-        ensures mark { IfOk result (λ x. (run : _) × F.post read run (Ok x)) }
+        ensures mark { IfOk result (λ x. (run : _) × (at : _) × F.post read run at (Ok x)) }
     {
         let run = self.run()?;
         let place = self.at;
-        let mark = read(run).map_err(|cause| MarkFault::at(cause, place))?;
+        let mark = read(run, place).map_err(|cause| MarkFault::at(cause, place))?;
         self.at = place + run.len();
         self.byte(then)?;
         Ok(mark)
@@ -138,8 +138,7 @@ impl<'a> Cursor<'a> {
         ensures read { behind result self.new.at ≡ item_at (name_reads due.now) then self.old.sheet.now self.old.at }
         ensures sheet { self.new.sheet ≡ self.old.sheet }
     {
-        let at = self.at;
-        self.item(|run| name_in(run, at, due), then)
+        self.item(|run, at| name_in(run, at, due), then)
     }
 
     // A number from `least` to `most` and the byte behind it.
@@ -148,8 +147,7 @@ impl<'a> Cursor<'a> {
         ensures sheet { self.new.sheet ≡ self.old.sheet }
         ensures bound { IfOk result (λ n. (least ≤ n) × (n ≤ most)) }
     {
-        let at = self.at;
-        self.item(|run| number_in(run, at, least, most), then)
+        self.item(|run, at| number_in(run, at, least, most), then)
     }
 
     // A number that is due itself and the blank behind it.
@@ -157,8 +155,7 @@ impl<'a> Cursor<'a> {
         ensures read { behind result self.new.at ≡ item_at (exact_reads due) blank self.old.sheet.now self.old.at }
         ensures sheet { self.new.sheet ≡ self.old.sheet }
     {
-        let at = self.at;
-        self.item(|run| exact_in(run, at, due), b' ')
+        self.item(|run, at| exact_in(run, at, due), b' ')
     }
 
     // A display and the newline behind it; the kind reads the run itself.
@@ -166,7 +163,7 @@ impl<'a> Cursor<'a> {
         ensures read { behind result self.new.at ≡ item_at D.DisplayKind.reads newline self.old.sheet.now self.old.at }
         ensures sheet { self.new.sheet ≡ self.old.sheet }
     {
-        self.item(|run| D::read(run), b'\n')
+        self.item(|run, _| D::read(run), b'\n')
     }
 
     // The names of a title, a blank between and a newline behind.
