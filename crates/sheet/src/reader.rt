@@ -22,13 +22,20 @@ use display::kind::DisplayKind;
 use policy::refusal::Refusal;
 use theory::limits::MOST_SHEET_BYTES;
 
+// the number of the first block, and the lines of its names and of its row
+const COUNTS_BLOCK: usize = 1;
+
+const NAMES_LINE: usize = 1;
+
+const COUNTS_LINE: usize = 2;
+
 // The first block: the counts and the start.
 fn first_block<D: DisplayKind>(cursor: &mut Cursor) -> Result<Heading, SheetFault>
     ensures read { headed (behind result cursor.new.at) ≡ first_at D.DisplayKind.kind cursor.old.sheet.now cursor.old.at }
     ensures sheet { cursor.new.sheet ≡ cursor.old.sheet }
 {
-    cursor.names(&rows::COUNTS).map_err(|fault| fault.on_line(1).in_block(1))?;
-    rows::counts_row::<D>(cursor).map_err(|fault| fault.on_line(2).in_block(1))
+    cursor.names(&rows::COUNTS).map_err(|fault| fault.on_line(NAMES_LINE).in_block(COUNTS_BLOCK))?;
+    rows::counts_row::<D>(cursor).map_err(|fault| fault.on_line(COUNTS_LINE).in_block(COUNTS_BLOCK))
 }
 
 // Writes what a row says where it belongs.
