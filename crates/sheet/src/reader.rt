@@ -12,7 +12,7 @@ use crate::due::Due;
 use crate::fault::SheetFault;
 use crate::flows::all_flows;
 use crate::found::Found;
-use crate::heading::Heading;
+use crate::heading::{Heading, COUNTS_BLOCK, COUNTS_LINE, NAMES_LINE};
 use crate::marks::Cursor;
 use crate::progress::Progress;
 use crate::rows;
@@ -21,13 +21,6 @@ use control::table::{DISPLAYS, OWNERS, STEPS};
 use display::kind::DisplayKind;
 use policy::refusal::Refusal;
 use theory::limits::MOST_SHEET_BYTES;
-
-// the number of the first block, and the lines of its names and of its row
-const COUNTS_BLOCK: usize = 1;
-
-const NAMES_LINE: usize = 1;
-
-const COUNTS_LINE: usize = 2;
 
 // The first block: the counts and the start.
 fn first_block<D: DisplayKind>(cursor: &mut Cursor) -> Result<Heading, SheetFault>
