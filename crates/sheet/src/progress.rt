@@ -4,7 +4,7 @@ ghost use Rattle.sheet.specs.Passes.{Ready, Went, started};
 
 use crate::due::{Block, Due};
 use crate::fault::SheetFault;
-use crate::heading::{Heading, COUNTS_LINE};
+use crate::heading::{COUNTS_LINE, Heading};
 use crate::marks::Cursor;
 use crate::rows;
 use crate::rows::Entry;

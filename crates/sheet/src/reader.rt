@@ -12,7 +12,7 @@ use crate::due::Due;
 use crate::fault::SheetFault;
 use crate::flows::all_flows;
 use crate::found::Found;
-use crate::heading::{Heading, COUNTS_BLOCK, COUNTS_LINE, NAMES_LINE};
+use crate::heading::{COUNTS_BLOCK, COUNTS_LINE, Heading, NAMES_LINE};
 use crate::marks::Cursor;
 use crate::progress::Progress;
 use crate::rows;
@@ -27,7 +27,9 @@ fn first_block<D: DisplayKind>(cursor: &mut Cursor) -> Result<Heading, SheetFaul
     ensures read { headed (behind result cursor.new.at) ≡ first_at D.DisplayKind.kind cursor.old.sheet.now cursor.old.at }
     ensures sheet { cursor.new.sheet ≡ cursor.old.sheet }
 {
-    cursor.names(&rows::COUNTS).map_err(|fault| fault.on_line(NAMES_LINE).in_block(COUNTS_BLOCK))?;
+    cursor
+        .names(&rows::COUNTS)
+        .map_err(|fault| fault.on_line(NAMES_LINE).in_block(COUNTS_BLOCK))?;
     rows::counts_row::<D>(cursor).map_err(|fault| fault.on_line(COUNTS_LINE).in_block(COUNTS_BLOCK))
 }
 
