@@ -1,9 +1,8 @@
 // Rows: what one line of a sheet says.
-ghost use Rattle.std.specs.Prelude.{◌≡◌, ◌-◌, ◌<◌, ◌≤◌, map, IfOk};
-ghost use Rattle.theory.specs.Limits.{Count};
+ghost use Rattle.std.specs.Prelude.{◌≡◌, map, IfOk};
 ghost use Rattle.sheet.specs.Faults.{behind};
 ghost use Rattle.sheet.specs.Reading.{counts_at, value_at};
-ghost use Rattle.sheet.specs.Due.{Stands, names_in, title_of, row_of};
+ghost use Rattle.sheet.specs.Due.{names_in, title_of, row_of};
 ghost use Rattle.sheet.specs.Entries.{counted, headed, told, Kinded};
 
 use crate::due::{Block, Due};
