@@ -31,7 +31,7 @@ const DISPLAYS: [&[u8]; 3] = [b"state", b"console", b"display"];
 
 const FLOWS: [&[u8]; 2] = [b"from", b"to"];
 
-// the names of the first block, which no row of `Due` heads
+// the names of the first block, which is read before any row is due
 pub(crate) const COUNTS: [&[u8]; 5] = [b"states", b"commands", b"consoles", b"start", b"display"];
 
 // The names that head a block.
