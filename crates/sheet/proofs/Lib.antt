@@ -11,7 +11,6 @@ pub mod ExactLines
 pub mod ExactSheets
 pub mod Filling
 pub mod Going
-pub mod Items
 pub mod Listing
 pub mod Outcome
 pub mod Passed

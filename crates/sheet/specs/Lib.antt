@@ -7,7 +7,6 @@ pub mod Reading
 pub mod Exact
 pub mod Calls
 pub mod Kinds
-pub mod Numbered
 pub mod Due
 pub mod Entries
 pub mod Passes

@@ -1,6 +1,7 @@
 // Which row of a sheet is due, from the counts to the flows.
 ghost use Rattle.std.specs.Prelude.{◌≡◌};
-ghost use Rattle.sheet.specs.Due.{Stands, number_of, next_due};
+ghost use Rattle.sheet.specs.Due.{Stands, title_of, number_of, next_due};
+ghost use Rattle.sheet.specs.Plan.{block_of};
 
 use crate::heading::Heading;
 
@@ -26,17 +27,32 @@ pub enum Due {
     Shown(usize),
 }
 
+impl Block {
+    // Counted from 1, where the counts stand: a number, since a refusal tells the block as one.
+    pub(crate) fn number(self) -> usize
+        ensures { result ≡ block_of (title_of self) }
+    {
+        match self {
+            Block::Owners => 2,
+            Block::Steps => 3,
+            Block::Displays => 4,
+            Block::Flows => 5,
+        }
+    }
+}
+
 impl Due {
-    // The block of the row, counted from 1: a number, since a refusal tells the block as one.
+    // The number of the row's block.
     pub(crate) fn block(self) -> usize
         ensures { result ≡ number_of self }
     {
-        match self {
-            Due::Owner(_) | Due::Title(Block::Owners) => 2,
-            Due::Step(_) | Due::Title(Block::Steps) => 3,
-            Due::Shown(_) | Due::Title(Block::Displays) => 4,
-            Due::Title(Block::Flows) => 5,
-        }
+        let block = match self {
+            Due::Title(block) => block,
+            Due::Owner(_) => Block::Owners,
+            Due::Step(_) => Block::Steps,
+            Due::Shown(_) => Block::Displays,
+        };
+        block.number()
     }
 
     // The row after it; behind the last row of a block stand the names of the next.

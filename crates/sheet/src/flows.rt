@@ -5,6 +5,7 @@ ghost use Rattle.sheet.specs.Reading.{flow_at, flows_at};
 ghost use Rattle.sheet.specs.Due.{highest_line};
 ghost use Rattle.sheet.specs.Boards.{flow_due, flow_next, BoardAs};
 
+use crate::due::Block;
 use crate::fault::{MarkFault, SheetFault};
 use crate::heading::Heading;
 use crate::marks::Cursor;
@@ -53,7 +54,9 @@ fn next_flow(
     if cursor.at >= cursor.sheet.len() {
         return Ok(None);
     }
-    let pair = flow_due(cursor, heading, low).map_err(|fault| fault.on_line(line).in_block(5))?;
+    let pair = flow_due(cursor, heading, low).map_err(|fault| fault
+        .on_line(line)
+        .in_block(Block::Flows.number()))?;
     Ok(Some(pair))
 }
 

@@ -2,6 +2,7 @@
 ghost use Rattle.std.specs.Prelude.{◌≡◌};
 ghost use Rattle.sheet.specs.Kinds.{readings_named};
 
+use crate::heading::{COUNTS_BLOCK, COUNTS_LINE};
 use crate::marks::run_of;
 use mark::cause::Cause;
 use policy::refusal::Refusal;
@@ -16,8 +17,8 @@ pub fn names_readings(sheet: &[u8], refusal: Refusal) -> bool
         Refusal::Fault {
             cause: Cause::NotDue,
             place,
-            line: 2,
-            block: 1,
+            line: COUNTS_LINE,
+            block: COUNTS_BLOCK,
         } if place <= sheet.len() => run_of(&sheet[place..]) == b"reading".as_slice(),
         _ => false,
     }

@@ -29,8 +29,8 @@ pub(crate) fn owners<C: Control>(control: &C, out: &mut Output<'_>)
     }
 }
 
-// A line for each state and command: the state that comes next. No function is shared with `displays`:
-// a closure for what ends a row would need a longer contract than these loops.
+// A line for each state and command: the state that comes next.
+// Twin of `displays`: one function, with a closure that ends a row, came to sixteen lines more here.
 pub(crate) fn steps<C: Control>(control: &C, out: &mut Output<'_>)
     ensures { Writes out.old (rows_text C.Display.kind C.Display.marked (C.value control.now) (step_rows (C.value control.now))) out.new }
 {

@@ -3,7 +3,6 @@ ghost use Rattle.std.specs.Prelude.{◌≡◌, ◌+◌, ◌≤◌, map, length, 
 ghost use Rattle.sheet.specs.Marks.{blank, newline, ends_run, run_of, mark_at, byte_at, item_at, name_reads, number_reads, exact_reads};
 ghost use Rattle.sheet.specs.Faults.{mark_fault, behind, place_behind};
 ghost use Rattle.sheet.specs.Reading.{names_at, exacts_at};
-ghost use Rattle.sheet.specs.Numbered.{placed, item_from};
 
 use crate::fault::MarkFault;
 use display::kind::DisplayKind;
@@ -115,20 +114,21 @@ impl<'a> Cursor<'a> {
         }
     }
 
-    // What the run that begins here and ends at `end` was read as, and the byte behind it.
-    fn item<T: Copy>(
+    // What the run that begins here is read as, and the byte behind it.
+    fn item<T: Copy, F: FnOnce(&[u8], usize) -> Result<T, Cause>>(
         &mut self,
-        read: Result<T, Cause>,
-        end: usize,
+        read: F,
         then: u8,
     ) -> Result<T, MarkFault>
-        ensures read { behind result self.new.at ≡ item_from (placed self.old.at read) then self.old.sheet.now end }
+        requires { F.IsAlwaysCallable read }
+        ensures read { (reads : _) → ((run : _) (at : _) (r : _) → F.post read run at r → r ≡ reads run.now) → behind result self.new.at ≡ item_at reads then self.old.sheet.now self.old.at }
         ensures sheet { self.new.sheet ≡ self.old.sheet }
-        ensures mark { IfOk result (λ x. read ≡ Ok x) }
+        ensures mark { IfOk result (λ x. (run : _) × (at : _) × F.post read run at (Ok x)) }
     {
+        let run = self.run()?;
         let place = self.at;
-        let mark = read.map_err(|cause| MarkFault::at(cause, place))?;
-        self.at = end;
+        let mark = read(run, place).map_err(|cause| MarkFault::at(cause, place))?;
+        self.at = place + run.len();
         self.byte(then)?;
         Ok(mark)
     }
@@ -138,8 +138,7 @@ impl<'a> Cursor<'a> {
         ensures read { behind result self.new.at ≡ item_at (name_reads due.now) then self.old.sheet.now self.old.at }
         ensures sheet { self.new.sheet ≡ self.old.sheet }
     {
-        let run = self.run()?;
-        self.item(name_in(run, self.at, due), self.at + run.len(), then)
+        self.item(|run, at| name_in(run, at, due), then)
     }
 
     // A number from `least` to `most` and the byte behind it.
@@ -148,12 +147,7 @@ impl<'a> Cursor<'a> {
         ensures sheet { self.new.sheet ≡ self.old.sheet }
         ensures bound { IfOk result (λ n. (least ≤ n) × (n ≤ most)) }
     {
-        let run = self.run()?;
-        self.item(
-            number_in(run, self.at, least, most),
-            self.at + run.len(),
-            then,
-        )
+        self.item(|run, at| number_in(run, at, least, most), then)
     }
 
     // A number that is due itself and the blank behind it.
@@ -161,8 +155,7 @@ impl<'a> Cursor<'a> {
         ensures read { behind result self.new.at ≡ item_at (exact_reads due) blank self.old.sheet.now self.old.at }
         ensures sheet { self.new.sheet ≡ self.old.sheet }
     {
-        let run = self.run()?;
-        self.item(exact_in(run, self.at, due), self.at + run.len(), b' ')
+        self.item(|run, at| exact_in(run, at, due), b' ')
     }
 
     // A display and the newline behind it; the kind reads the run itself.
@@ -170,8 +163,7 @@ impl<'a> Cursor<'a> {
         ensures read { behind result self.new.at ≡ item_at D.DisplayKind.reads newline self.old.sheet.now self.old.at }
         ensures sheet { self.new.sheet ≡ self.old.sheet }
     {
-        let run = self.run()?;
-        self.item(D::read(run), self.at + run.len(), b'\n')
+        self.item(|run, _| D::read(run), b'\n')
     }
 
     // The names of a title, a blank between and a newline behind.

@@ -23,6 +23,7 @@ impl Output<'_> {
         self.at = self.at.saturating_add(1);
     }
 
+    // Not shared with `Mark::push_all`: a mark stops at eight bytes, an output counts on.
     pub(crate) fn text(&mut self, bytes: &[u8])
         ensures { Writes self.old bytes.now self.new }
     {

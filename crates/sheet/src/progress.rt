@@ -4,7 +4,7 @@ ghost use Rattle.sheet.specs.Passes.{Ready, Went, started};
 
 use crate::due::{Block, Due};
 use crate::fault::SheetFault;
-use crate::heading::Heading;
+use crate::heading::{COUNTS_LINE, Heading};
 use crate::marks::Cursor;
 use crate::rows;
 use crate::rows::Entry;
@@ -26,7 +26,7 @@ impl<'a> Progress<'a> {
     {
         Progress {
             due: Some(Due::Title(Block::Owners)),
-            line: 3,
+            line: COUNTS_LINE + 1,
             cursor,
         }
     }

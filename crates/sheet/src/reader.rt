@@ -12,7 +12,7 @@ use crate::due::Due;
 use crate::fault::SheetFault;
 use crate::flows::all_flows;
 use crate::found::Found;
-use crate::heading::Heading;
+use crate::heading::{COUNTS_BLOCK, COUNTS_LINE, Heading, NAMES_LINE};
 use crate::marks::Cursor;
 use crate::progress::Progress;
 use crate::rows;
@@ -27,8 +27,10 @@ fn first_block<D: DisplayKind>(cursor: &mut Cursor) -> Result<Heading, SheetFaul
     ensures read { headed (behind result cursor.new.at) ≡ first_at D.DisplayKind.kind cursor.old.sheet.now cursor.old.at }
     ensures sheet { cursor.new.sheet ≡ cursor.old.sheet }
 {
-    rows::counts_title(cursor).map_err(|fault| fault.on_line(1).in_block(1))?;
-    rows::counts_row::<D>(cursor).map_err(|fault| fault.on_line(2).in_block(1))
+    cursor
+        .names(&rows::COUNTS)
+        .map_err(|fault| fault.on_line(NAMES_LINE).in_block(COUNTS_BLOCK))?;
+    rows::counts_row::<D>(cursor).map_err(|fault| fault.on_line(COUNTS_LINE).in_block(COUNTS_BLOCK))
 }
 
 // Writes what a row says where it belongs.

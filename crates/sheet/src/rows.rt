@@ -1,11 +1,8 @@
 // Rows: what one line of a sheet says.
-ghost use Rattle.std.specs.Prelude.{◌≡◌, ◌-◌, ◌<◌, ◌≤◌, IfOk};
-ghost use Rattle.theory.specs.Limits.{Count};
-ghost use Rattle.sheet.specs.Marks.{number_reads};
-ghost use Rattle.sheet.specs.Faults.{behind, place_behind};
-ghost use Rattle.sheet.specs.Reading.{names_at, row_at, counts_at, value_at};
-ghost use Rattle.sheet.specs.Due.{Stands, names_in, title_of, row_of};
-ghost use Rattle.sheet.specs.Plan.{counts_title};
+ghost use Rattle.std.specs.Prelude.{◌≡◌, map, IfOk};
+ghost use Rattle.sheet.specs.Faults.{behind};
+ghost use Rattle.sheet.specs.Reading.{counts_at, value_at};
+ghost use Rattle.sheet.specs.Due.{names_in, title_of, row_of};
 ghost use Rattle.sheet.specs.Entries.{counted, headed, told, Kinded};
 
 use crate::due::{Block, Due};
@@ -34,37 +31,19 @@ const DISPLAYS: [&[u8]; 3] = [b"state", b"console", b"display"];
 
 const FLOWS: [&[u8]; 2] = [b"from", b"to"];
 
+// the names of the first block, which is read before any row is due
+pub(crate) const COUNTS: [&[u8]; 5] = [b"states", b"commands", b"consoles", b"start", b"display"];
+
 // The names that head a block.
-fn title(cursor: &mut Cursor, block: Block) -> Result<(), MarkFault>
-    ensures read { place_behind result cursor.new.at ≡ names_at (names_in (title_of block)) cursor.old.sheet.now cursor.old.at }
-    ensures sheet { cursor.new.sheet ≡ cursor.old.sheet }
+fn names(block: Block) -> &'static [&'static [u8]]
+    ensures { map (λ x. x.now) result.now ≡ names_in (title_of block) }
 {
     match block {
-        Block::Owners => cursor.names(&OWNERS),
-        Block::Steps => cursor.names(&STEPS),
-        Block::Displays => cursor.names(&DISPLAYS),
-        Block::Flows => cursor.names(&FLOWS),
+        Block::Owners => &OWNERS,
+        Block::Steps => &STEPS,
+        Block::Displays => &DISPLAYS,
+        Block::Flows => &FLOWS,
     }
-}
-
-// A row that begins with given numbers and ends with a number up to `most`.
-fn number_row(cursor: &mut Cursor, due: &[usize], most: usize) -> Result<usize, MarkFault>
-    ensures read { behind result cursor.new.at ≡ row_at due.now (number_reads 0 most) cursor.old.sheet.now cursor.old.at }
-    ensures sheet { cursor.new.sheet ≡ cursor.old.sheet }
-    ensures bound { IfOk result (λ n. n ≤ most) }
-{
-    cursor.exacts(due)?;
-    cursor.ranged(0, most, b'\n')
-}
-
-// A row that begins with given numbers and ends with a display. A closure for what ends a row would
-// need a longer contract than this function and `number_row` have together.
-fn display_row<D: DisplayKind>(cursor: &mut Cursor, due: &[usize]) -> Result<D, MarkFault>
-    ensures read { behind result cursor.new.at ≡ row_at due.now D.DisplayKind.reads cursor.old.sheet.now cursor.old.at }
-    ensures sheet { cursor.new.sheet ≡ cursor.old.sheet }
-{
-    cursor.exacts(due)?;
-    cursor.display()
 }
 
 // The row that is due.
@@ -80,33 +59,24 @@ pub(crate) fn row<D: DisplayKind>(
     let counts = heading.counts;
     match due {
         Due::Title(block) => {
-            title(cursor, block)?;
+            cursor.names(names(block))?;
             Ok(Entry::Nothing)
         }
         Due::Owner(command) => {
-            let console = number_row(cursor, &[command], counts.consoles - 1)?;
+            cursor.exacts(&[command])?;
+            let console = cursor.ranged(0, counts.consoles - 1, b'\n')?;
             Ok(Entry::Owner(console as u8))
         }
         Due::Step(number) => {
-            let leads = [number / counts.commands, number % counts.commands];
-            let next = number_row(cursor, &leads, counts.states - 1)?;
+            cursor.exacts(&[number / counts.commands, number % counts.commands])?;
+            let next = cursor.ranged(0, counts.states - 1, b'\n')?;
             Ok(Entry::Step(next as u8))
         }
         Due::Shown(number) => {
-            let leads = [number / counts.consoles, number % counts.consoles];
-            Ok(Entry::Shown(display_row(cursor, &leads)?))
+            cursor.exacts(&[number / counts.consoles, number % counts.consoles])?;
+            Ok(Entry::Shown(cursor.display()?))
         }
     }
-}
-
-const COUNTS: [&[u8]; 5] = [b"states", b"commands", b"consoles", b"start", b"display"];
-
-// The names of the first block.
-pub(crate) fn counts_title(cursor: &mut Cursor) -> Result<(), MarkFault>
-    ensures read { place_behind result cursor.new.at ≡ names_at (names_in counts_title) cursor.old.sheet.now cursor.old.at }
-    ensures sheet { cursor.new.sheet ≡ cursor.old.sheet }
-{
-    cursor.names(&COUNTS)
 }
 
 // The row of the first block: three counts, a start among the states, and the kind's name.
