@@ -21,11 +21,7 @@ fn own_consoles() -> Codes {
 }
 
 // A board with the flows from one console to another.
-fn board(
-    consoles: usize,
-    commands: usize,
-    flows: &[(usize, usize)],
-) -> Result<Board, Refusal> {
+fn board(consoles: usize, commands: usize, flows: &[(usize, usize)]) -> Result<Board, Refusal> {
     let mut board = Board::bare(consoles, commands)?;
     for (from, to) in flows {
         board.allow(*from, *to)?;

@@ -1,5 +1,5 @@
 -- What is answered to the words of a command line, on the board and the control that a sheet says.
-use Rattle.std.specs.Prelude.{◌≡◌, ℕ, cond, List, [], ◌∷◌, Ok, Err, Option, Result, Vec, is_ok, IfOk, MatchOption, MatchResult}
+use Rattle.std.specs.Prelude.{◌≡◌, ℕ, cond, List, [], ◌∷◌, Ok, Err, Result, is_ok, IfOk, MatchOption, MatchResult}
 use Rattle.theory.specs.Boards.{BoardValue}
 use Rattle.theory.specs.Control.{ControlValue}
 use Rattle.policy.specs.Calls.{after_lock}
@@ -9,7 +9,6 @@ use Rattle.policy.specs.declared.refusal.Refusal.TheVariants.{NoSuchCommand}
 use Rattle.control.specs.Replays.{replay_answer}
 use Rattle.meaning.specs.Likeness.{likeness_answer}
 use Rattle.meaning.specs.Published.{published_meaning}
-use Rattle.meaning.specs.declared.published.Published.{Published}
 use Rattle.report.specs.Comparisons.{compared}
 use Rattle.report.specs.Transcripts.{transcript_text}
 use Rattle.report.specs.Troubles.{RefusedAs}

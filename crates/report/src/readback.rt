@@ -36,7 +36,11 @@ fn push_each<F: Fn(&mut String, usize) -> Result<(), AllocError>>(
 fn push_flows_from(text: &mut String, flows: &Flows, from: usize) -> Result<(), AllocError>
     ensures { OnOk result (string_bytes text.new ≡ string_bytes text.old ++ flow_lines (may_affect flows.now) (consoles_of flows.now) from) }
 {
-    push_each(text, flows.consoles(), |text, to| push_flow(text, flows, from, to))
+    push_each(
+        text,
+        flows.consoles(),
+        |text, to| push_flow(text, flows, from, to),
+    )
 }
 
 // One of the consoles that may affect another.
@@ -54,7 +58,11 @@ fn push_givers_line(text: &mut String, flows: &Flows, to: usize) -> Result<(), A
     ensures { OnOk result (string_bytes text.new ≡ string_bytes text.old ++ givers_line (may_affect flows.now) (consoles_of flows.now) to) }
 {
     write!(text, "console {to} may be affected by itself")?;
-    push_each(text, flows.consoles(), |text, from| push_giver(text, flows, from, to))?;
+    push_each(
+        text,
+        flows.consoles(),
+        |text, from| push_giver(text, flows, from, to),
+    )?;
     writeln!(text)
 }
 
@@ -64,8 +72,16 @@ pub fn readback(heap: Global, flows: &Flows) -> Result<String, AllocError>
 {
     let mut text = String::new(heap);
     writeln!(text, "Permitted flows:")?;
-    push_each(&mut text, flows.consoles(), |text, from| push_flows_from(text, flows, from))?;
+    push_each(
+        &mut text,
+        flows.consoles(),
+        |text, from| push_flows_from(text, flows, from),
+    )?;
     writeln!(text, "Seen from each console:")?;
-    push_each(&mut text, flows.consoles(), |text, to| push_givers_line(text, flows, to))?;
+    push_each(
+        &mut text,
+        flows.consoles(),
+        |text, to| push_givers_line(text, flows, to),
+    )?;
     Ok(text)
 }

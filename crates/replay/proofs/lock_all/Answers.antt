@@ -16,7 +16,7 @@ pub returns-in_err-lock-clause-refused : goal.returns-in_err-lock-clause-refused
 returns-in_err-lock-clause-refused c =
     let b = value_of c.loop-command.board in
     let told = locked_refused b c.args.commands.now c.loop-command.command-index _ c.in_err-lock.field-0.0 (search rules)
-        (ap (lock_answer b.commands) (sym c.from.ensures) ∙ sym c.lock.ensures.answer ∙ c.in_err-lock.was) c.loop-command.invariant in
+    (ap (lock_answer b.commands) (sym c.from.ensures) ∙ sym c.lock.ensures.answer ∙ c.in_err-lock.was) c.loop-command.invariant in
     search rules
 
 pub returns-clause-locked : goal.returns-clause-locked

@@ -1,5 +1,5 @@
 -- Blanks, and then the word.
-use Rattle.std.proofs.Common.{◌≡◌, ℕ, ◌-◌, ◌++◌, length, replicate, vec_items, Ok, ◌∙◌}
+use Rattle.std.proofs.Common.{◌≡◌, ℕ, ◌-◌, length, replicate, vec_items, Ok, ◌∙◌}
 use Rattle.std.proofs.lemmas.Iterator.Adapters.{YieldsList-from_repeat_n, items_from_extend}
 use Rattle.report.proofs.Appending.{then}
 use Rattle.report.proofs.lines.push_padded.Goals as goal
