@@ -8,6 +8,9 @@ use policy::board::Board;
 use policy::refusal::Refusal;
 use std::test::Fail;
 
+// The flows of the latch's board.
+const LATCH_FLOWS: [(usize, usize); 2] = [(0, 1), (1, 2)];
+
 // Commands 0 to 3 belong to consoles 0 to 3.
 fn own_consoles() -> Codes {
     let mut store = Codes::blank();
@@ -17,19 +20,12 @@ fn own_consoles() -> Codes {
     store
 }
 
-fn latch_board() -> Result<Board, Refusal> {
-    let mut board = Board::bare(3, 2)?;
-    board.allow(0, 1)?;
-    board.allow(1, 2)?;
-    Ok(board)
-}
-
-fn order_board() -> Result<Board, Refusal> {
-    let mut board = Board::bare(5, 4)?;
-    board.allow(0, 2)?;
-    board.allow(1, 3)?;
-    board.allow(2, 4)?;
-    board.allow(3, 4)?;
+// A board with the flows from one console to another.
+fn board(consoles: usize, commands: usize, flows: &[(usize, usize)]) -> Result<Board, Refusal> {
+    let mut board = Board::bare(consoles, commands)?;
+    for (from, to) in flows {
+        board.allow(*from, *to)?;
+    }
     Ok(board)
 }
 
@@ -37,7 +33,7 @@ fn order_board() -> Result<Board, Refusal> {
 fn what_is_carried_on_is_not_dropped(rt: HostRuntime) -> Result<(), Fail> {
     let store = latch::store();
     let table = store.table(latch::COUNTS, 0)?;
-    let board = latch_board()?;
+    let board = board(3, 2, &LATCH_FLOWS)?;
     assert_eq!(rt;
         likeness(&board, &table, &Published::Ip, 2, &[0, 1], &[1]),
         Ok(false)
@@ -66,7 +62,7 @@ fn an_order_that_nobody_carries_is_not_told(rt: HostRuntime) -> Result<(), Fail>
         consoles: 5,
     };
     let table = store.table(counts, 0)?;
-    let board = order_board()?;
+    let board = board(5, 4, &[(0, 2), (1, 3), (2, 4), (3, 4)])?;
     assert_eq!(rt;
         likeness(
             &board,
@@ -110,7 +106,7 @@ fn refusals_come_in_their_order(rt: HostRuntime) -> Result<(), Fail> {
         likeness(&other, &table, &Published::P, 3, &[1], &long),
         Err(Refusal::CountsDiffer)
     );
-    let board = latch_board()?;
+    let board = board(3, 2, &LATCH_FLOWS)?;
     assert_eq!(rt;
         likeness(&board, &table, &Published::P, 2, &[1], &long),
         Err(Refusal::SequenceTooLong)

@@ -1,12 +1,15 @@
 // Replays command sequences on a receiver: a transcript of one, or a comparison of two.
 #![tactic(auto)]
 
-ghost use Rattle.std.specs.Prelude.{⊤};
+ghost use Rattle.std.specs.Prelude.{◌≡◌, Ok, Err, IfOk, IfErr};
+ghost use Rattle.policy.specs.Board.{value_of};
+ghost use Rattle.replay.specs.Replays.{all_locked, Answered};
 
 use anyhow::anyhow;
 use control::control::Control;
 use meaning::published::Published;
 use policy::board::Board;
+use policy::refusal::Refusal;
 use receiver::asking::ask;
 use receiver::question::Question;
 use report::comparison::comparison;
@@ -69,7 +72,8 @@ enum Next {
     Sheet,
 }
 
-// What the words on the command line ask for.
+// What the words on the command line ask for. They may name it in any order, so a console and a
+// second sequence are gathered beside the meaning that they count for.
 #[derive(Drop)]
 struct Asked {
     heap: Global,
@@ -141,16 +145,25 @@ fn read_words(rt: &HostRuntime) -> anyhow::Result<Asked> {
     Ok(asked)
 }
 
+// The board with the commands locked one by one.
+fn lock_all(mut board: Board, commands: &[u8]) -> Result<Board, Refusal>
+    ensures locked { IfOk result (λ b. all_locked (value_of board) commands.now ≡ Ok (value_of b)) }
+    ensures refused { IfErr result (λ e. all_locked (value_of board) commands.now ≡ Err e) }
+{
+    for command in commands {
+        board.lock(usize::from(*command))?;
+    }
+    Ok(board)
+}
+
 // What is asked for, under the board's lockouts and those asked for besides.
 impl Question for Asked {
     type Answer = Result<Vec<u8>, Trouble>;
 
-    ghost answered = { λ _ _ _ _ _ _. ⊤ };
+    ghost answered = { λ self board _ mark control answer. Answered (λ t. t.items) self board mark control answer };
 
-    fn ask<C: Control>(&self, mut board: Board, control: &C) -> Result<Vec<u8>, Trouble> {
-        for command in &self.locked {
-            board.lock(usize::from(*command))?;
-        }
+    fn ask<C: Control>(&self, board: Board, control: &C) -> Result<Vec<u8>, Trouble> {
+        let board = lock_all(board, self.locked.as_slice())?;
         let first = self.first.as_slice();
         match self.meaning {
             None => transcript(self.heap, &board, control, first),

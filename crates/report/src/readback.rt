@@ -1,7 +1,7 @@
 // The permitted flows read back in words, so that a flow entered the wrong way round is seen.
-ghost use Rattle.std.specs.Prelude.{◌≡◌, ◌++◌, IfOk, OnOk, string_bytes};
+ghost use Rattle.std.specs.Prelude.{◌≡◌, ℕ, List, ◌++◌, IfOk, OnOk, string_bytes};
 ghost use Rattle.policy.specs.Flows.{consoles_of, may_affect};
-ghost use Rattle.report.specs.Lines.{upto};
+ghost use Rattle.report.specs.Lines.{Pushes, upto};
 ghost use Rattle.report.specs.Readbacks.{flow_line, flow_lines, giver, givers_line, readback_text};
 
 use policy::flows::Flows;
@@ -17,24 +17,30 @@ fn push_flow(text: &mut String, flows: &Flows, from: usize, to: usize) -> Result
     Ok(())
 }
 
-// The flows from one console. Plain loops, here and for who may affect a console: a function that
-// took the piece of text as a closure would have a longer contract than each loop.
-fn push_flows_from(text: &mut String, flows: &Flows, from: usize) -> Result<(), AllocError>
-    ensures { OnOk result (string_bytes text.new ≡ string_bytes text.old ++ flow_lines (may_affect flows.now) (consoles_of flows.now) from) }
+// A piece of text for each number below a count, one after the other.
+fn push_each<F: Fn(&mut String, usize) -> Result<(), AllocError>>(
+    text: &mut String,
+    count: usize,
+    piece: F,
+) -> Result<(), AllocError>
+    requires { F.IsAlwaysCallable piece }
+    ensures { (said : ℕ → List ℕ) → Pushes (F.post piece) said count → OnOk result (string_bytes text.new ≡ string_bytes text.old ++ upto said count) }
 {
-    for to in 0..flows.consoles() {
-        push_flow(text, flows, from, to)?;
+    for n in 0..count {
+        piece(text, n)?;
     }
     Ok(())
 }
 
-fn push_flows(text: &mut String, flows: &Flows) -> Result<(), AllocError>
-    ensures { OnOk result (string_bytes text.new ≡ string_bytes text.old ++ upto (flow_lines (may_affect flows.now) (consoles_of flows.now)) (consoles_of flows.now)) }
+// The flows from one console.
+fn push_flows_from(text: &mut String, flows: &Flows, from: usize) -> Result<(), AllocError>
+    ensures { OnOk result (string_bytes text.new ≡ string_bytes text.old ++ flow_lines (may_affect flows.now) (consoles_of flows.now) from) }
 {
-    for from in 0..flows.consoles() {
-        push_flows_from(text, flows, from)?;
-    }
-    Ok(())
+    push_each(
+        text,
+        flows.consoles(),
+        |text, to| push_flow(text, flows, from, to),
+    )
 }
 
 // One of the consoles that may affect another.
@@ -52,19 +58,12 @@ fn push_givers_line(text: &mut String, flows: &Flows, to: usize) -> Result<(), A
     ensures { OnOk result (string_bytes text.new ≡ string_bytes text.old ++ givers_line (may_affect flows.now) (consoles_of flows.now) to) }
 {
     write!(text, "console {to} may be affected by itself")?;
-    for from in 0..flows.consoles() {
-        push_giver(text, flows, from, to)?;
-    }
+    push_each(
+        text,
+        flows.consoles(),
+        |text, from| push_giver(text, flows, from, to),
+    )?;
     writeln!(text)
-}
-
-fn push_givers_lines(text: &mut String, flows: &Flows) -> Result<(), AllocError>
-    ensures { OnOk result (string_bytes text.new ≡ string_bytes text.old ++ upto (givers_line (may_affect flows.now) (consoles_of flows.now)) (consoles_of flows.now)) }
-{
-    for to in 0..flows.consoles() {
-        push_givers_line(text, flows, to)?;
-    }
-    Ok(())
 }
 
 // All permitted flows, and for each console who may affect it.
@@ -73,8 +72,16 @@ pub fn readback(heap: Global, flows: &Flows) -> Result<String, AllocError>
 {
     let mut text = String::new(heap);
     writeln!(text, "Permitted flows:")?;
-    push_flows(&mut text, flows)?;
+    push_each(
+        &mut text,
+        flows.consoles(),
+        |text, from| push_flows_from(text, flows, from),
+    )?;
     writeln!(text, "Seen from each console:")?;
-    push_givers_lines(&mut text, flows)?;
+    push_each(
+        &mut text,
+        flows.consoles(),
+        |text, to| push_givers_line(text, flows, to),
+    )?;
     Ok(text)
 }

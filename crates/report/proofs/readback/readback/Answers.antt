@@ -6,5 +6,5 @@ use Rattle.report.proofs.readback.readback.Goals as goal
 
 pub returns : goal.returns
 returns c =
-    four_pieces (string_bytes c.writeln.new.self) (string_bytes c.push_flows.new.text) (string_bytes c.writeln-2.new.self) _ (codes "Permitted flows:\n") _ (codes "Seen from each console:\n") _
-    (search rules) c.in_ok-push_flows.ensures (search rules) c.in_ok-push_givers_lines.ensures
+    four_pieces (string_bytes c.writeln.new.self) (string_bytes c.push_each.new.text) (string_bytes c.writeln-2.new.self) _ (codes "Permitted flows:\n") _ (codes "Seen from each console:\n") _
+    (search rules) (search rules) (search rules) (search rules)

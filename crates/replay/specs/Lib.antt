@@ -1,0 +1,2 @@
+-- What this program answers.
+pub mod Replays
