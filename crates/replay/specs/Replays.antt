@@ -22,8 +22,8 @@ all_locked b [] = Ok b
 all_locked b (c ∷ commands) = cond (is_ok (lock_answer b.commands c)) (all_locked (after_lock b c) commands) (Err NoSuchCommand)
 
 -- r has this text where it is made, and is refused as the call that the text speaks of
-abbrev pub Told : {T A : Type 0} → (T → List ℕ) → Result T Trouble → List ℕ → Result A Refusal → Type 0
-Told bytes r text answer = IfOk r (λ t. bytes t ≡ text) × RefusedAs r answer
+abbrev pub MadeAs : {T A : Type 0} → (T → List ℕ) → Result T Trouble → List ℕ → Result A Refusal → Type 0
+MadeAs bytes r text answer = IfOk r (λ t. bytes t ≡ text) × RefusedAs r answer
 
 -- one sequence is run, or two are compared under the meaning that is asked for
 abbrev pub Replayed : {D T : Type 0} → (T → List ℕ) → Asked → (D → List ℕ) → ControlValue D → BoardValue → Result T Trouble → Type 0
@@ -31,8 +31,8 @@ Replayed bytes asked mark v b r =
     let first = asked.first.items in
     let second = asked.second.items in
     MatchOption asked.meaning
-    (Told bytes r (transcript_text mark v b.locked first) (replay_answer b v first))
-    (λ m. Told bytes r (compared mark v b m asked.console first second) (likeness_answer (published_meaning m) b v asked.console first second))
+    (MadeAs bytes r (transcript_text mark v b.locked first) (replay_answer b v first))
+    (λ m. MadeAs bytes r (compared mark v b m asked.console first second) (likeness_answer (published_meaning m) b v asked.console first second))
 
 -- the same behind the lockouts that are asked for
 abbrev pub Answered : {D T : Type 0} → (T → List ℕ) → Asked → BoardValue → (D → List ℕ) → ControlValue D → Result T Trouble → Type 0
