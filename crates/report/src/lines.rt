@@ -5,7 +5,7 @@ ghost use Rattle.report.specs.Lines.{padded};
 use std::alloc::AllocError;
 use std::iter::repeat_n;
 
-// The word at the right end of a column.
+// The word at the right end of a column. For marks, which are bytes: `{:>12}` pads texts alone.
 pub fn push_padded(text: &mut Vec<u8>, width: usize, word: &[u8]) -> Result<(), AllocError>
     ensures { OnOk result (text.new.items ≡ text.old.items ++ padded width word.now) }
 {

@@ -109,7 +109,8 @@ fn push_command<C: Control>(
     push_state(text, control, state)
 }
 
-// The lines of all commands, run from the start, and the closing state.
+// The lines of all commands, run from the start, and the closing state. Steps are numbered by
+// `enumerate`: under `(1..).zip(sequence)` three goals stayed open.
 fn push_commands<C: Control>(
     text: &mut Vec<u8>,
     control: &C,
