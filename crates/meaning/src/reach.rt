@@ -8,7 +8,8 @@ use crate::compared::Compared;
 use control::reading::all_below;
 use policy::flows::Flows;
 
-// Command c is given by console `owners[c]`.
+// Command c is given by console `owners[c]`. The console that is asked about is no field: the table
+// of TA is about all consoles at once.
 #[derive(Clone, Copy)]
 pub(crate) struct Reach<'a> {
     pub(crate) flows: &'a Flows,

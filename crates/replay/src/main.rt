@@ -72,8 +72,8 @@ enum Next {
     Sheet,
 }
 
-// What the words on the command line ask for. They may name it in any order, so a console and a
-// second sequence are gathered beside the meaning that they count for.
+// What the words on the command line ask for. A flag may cut `--alike` short, so a console and a
+// second sequence stand beside the meaning that they count for.
 #[derive(Drop)]
 struct Asked {
     heap: Global,

@@ -14,7 +14,8 @@ pub enum Block {
     Flows,
 }
 
-// The row that is due; of several alike its number, from 0.
+// The row that is due; of several alike its number, from 0. A state that is matched with the row
+// just read and advanced in place: the form that the project asks of its reader.
 #[derive(Clone, Copy)]
 pub enum Due {
     // the names that head a block
