@@ -1,9 +1,10 @@
 -- The rows that are still due begin with the row due and go on with those of the next.
-use Rattle.std.proofs.Common.{◌≡◌, ℕ, zero, suc, ◌+◌, ◌-◌, ◌*◌, ◌/◌, ◌%◌, ◌<◌, ◌≤◌, Bool, true, false, cond, ltb, List, [], ◌∷◌, ◌++◌, length, Some, Option, sym, refl, ap, ◌∙◌, arith, length-append}
+use Rattle.std.proofs.Common.{◌≡◌, ℕ, zero, suc, ◌+◌, ◌-◌, ◌*◌, ◌/◌, ◌%◌, ◌<◌, ◌≤◌, cond, ltb, List, [], ◌∷◌, ◌++◌, length, Some, Option, sym, refl, ap, ◌∙◌, arith, length-append}
+use Rattle.std.proofs.Math.Nat.{mul-pos, sub-zero}
 use Rattle.std.proofs.lemmas.Nat.{mul-le}
-use Rattle.std.proofs.lemmas.Bool.{ltb-true, ltb-false}
+use Rattle.std.proofs.lemmas.Bool.{cond_both, ltb-true, ltb-false}
 use Rattle.control.specs.declared.table.Counts.{Counts}
-use Rattle.sheet.specs.Plan.{tabulate, Row, owner, step, shown, block_of, plan, owners_title, steps_title, displays_title, flows_title}
+use Rattle.sheet.specs.Plan.{tabulate, Row, owner, step, shown, block_of, plan}
 use Rattle.sheet.specs.Due.{Within, row_of, number_of, rows_due, rows_left, next_due, Stands, StandsLeft}
 use Rattle.sheet.specs.declared.due.Block.TheVariants as block
 use Rattle.sheet.specs.declared.due.Due.{Due}
@@ -21,11 +22,9 @@ length_tabulate k (suc n) f = ap suc (length_tabulate (k + 1) n f)
 
 -- row k of n, and the rows behind it: `more` while there are some, then `rest`
 handed_over : (n k : ℕ) (f : ℕ → Row) (rest : List Row) (F : Option Due → List Row) (more last : Option Due) → F more ≡ tabulate (k + 1) (n - (k + 1)) f ++ rest → F last ≡ rest → k < n → tabulate k (n - k) f ++ rest ≡ f k ∷ F (cond (ltb (k + 1) n) more last)
-handed_over n k f rest F more last m l h = ap (λ rs. rs ++ rest) (tabulate_more n k f h) ∙ ap (λ rs. f k ∷ rs) (by (ltb (k + 1) n) refl)
-  where
-    by : (b : Bool) → ltb (k + 1) n ≡ b → tabulate (k + 1) (n - (k + 1)) f ++ rest ≡ F (cond b more last)
-    by true e = sym m
-    by false e = ap (λ rs. rs ++ rest) (tabulate_done n (k + 1) f (ltb-false (k + 1) n e)) ∙ sym l
+handed_over n k f rest F more last m l h =
+    ap (λ rs. rs ++ rest) (tabulate_more n k f h)
+    ∙ ap (λ rs. f k ∷ rs) (cond_both (ltb (k + 1) n) more last (λ d. tabulate (k + 1) (n - (k + 1)) f ++ rest ≡ F d) (λ e. sym m) (λ e. ap (λ rs. rs ++ rest) (tabulate_done n (k + 1) f (ltb-false (k + 1) n e)) ∙ sym l))
 
 pub rows_step : (c : Counts) (d : Due) → Stands c d → rows_due c d ≡ row_of c d ∷ rows_left c (next_due c d)
 rows_step c (due.Title block.Owners) h = refl
@@ -36,20 +35,13 @@ rows_step c (due.Owner n) h = handed_over c.commands n owner _ (rows_left c) _ _
 rows_step c (due.Step n) h = handed_over (c.states * c.commands) n (λ r. step (r / c.commands) (r % c.commands)) _ (rows_left c) _ _ refl refl h
 rows_step c (due.Shown n) h = handed_over (c.states * c.consoles) n (λ r. shown (r / c.consoles) (r % c.consoles)) _ (rows_left c) _ _ refl refl h
 
-some_product : (a b : ℕ) → 1 ≤ a → 1 ≤ b → 0 < a * b
-some_product a b p q = omega (arith, mul-le 1 1 a b p q)
-
 stands_or : (c : Counts) (n k : ℕ) (more last : Due) → (k + 1 < n → Stands c more) → Stands c last → StandsLeft c (cond (ltb (k + 1) n) (Some more) (Some last))
-stands_or c n k more last m l = by (ltb (k + 1) n) refl
-  where
-    by : (b : Bool) → ltb (k + 1) n ≡ b → StandsLeft c (cond b (Some more) (Some last))
-    by true e = m (ltb-true (k + 1) n e)
-    by false e = l
+stands_or c n k more last m l = cond_both (ltb (k + 1) n) (Some more) (Some last) (StandsLeft c) (λ e. m (ltb-true (k + 1) n e)) (λ e. l)
 
 pub stands_next : (c : Counts) (d : Due) → Within c → StandsLeft c (next_due c d)
 stands_next c (due.Title block.Owners) w = omega (arith, w.commands.0)
-stands_next c (due.Title block.Steps) w = some_product c.states c.commands w.states.0 w.commands.0
-stands_next c (due.Title block.Displays) w = some_product c.states c.consoles w.states.0 w.consoles.0
+stands_next c (due.Title block.Steps) w = mul-pos w.states.0 w.commands.0
+stands_next c (due.Title block.Displays) w = mul-pos w.states.0 w.consoles.0
 stands_next c (due.Title block.Flows) w = tt
 stands_next c (due.Owner n) w = stands_or c c.commands n _ _ (λ h. h) tt
 stands_next c (due.Step n) w = stands_or c (c.states * c.commands) n _ _ (λ h. h) tt
@@ -63,13 +55,7 @@ block_number c (due.Shown n) = refl
 
 -- at the start every row of the plan is due
 pub all_due : (c : Counts) → plan c.states c.commands c.consoles ≡ rows_due c (due.Title block.Owners)
-all_due c =
-    let a : c.commands ≡ c.commands - 0 = omega arith in
-    let b : c.states * c.commands ≡ c.states * c.commands - 0 = omega arith in
-    let d : c.states * c.consoles ≡ c.states * c.consoles - 0 = omega arith in
-    ap (λ x. owners_title ∷ (tabulate 0 x owner ++ (steps_title ∷ (tabulate 0 (c.states * c.commands) (λ r. step (r / c.commands) (r % c.commands)) ++ (displays_title ∷ (tabulate 0 (c.states * c.consoles) (λ r. shown (r / c.consoles) (r % c.consoles)) ++ (flows_title ∷ []))))))) a
-    ∙ ap (λ x. owners_title ∷ (tabulate 0 (c.commands - 0) owner ++ (steps_title ∷ (tabulate 0 x (λ r. step (r / c.commands) (r % c.commands)) ++ (displays_title ∷ (tabulate 0 (c.states * c.consoles) (λ r. shown (r / c.consoles) (r % c.consoles)) ++ (flows_title ∷ []))))))) b
-    ∙ ap (λ x. owners_title ∷ (tabulate 0 (c.commands - 0) owner ++ (steps_title ∷ (tabulate 0 (c.states * c.commands - 0) (λ r. step (r / c.commands) (r % c.commands)) ++ (displays_title ∷ (tabulate 0 x (λ r. shown (r / c.consoles) (r % c.consoles)) ++ (flows_title ∷ []))))))) d
+all_due c = simp sub-zero
 
 -- and they are few
 pub few_rows : (c : Counts) → Within c → length (rows_due c (due.Title block.Owners)) ≤ 3628

@@ -1,17 +1,15 @@
 -- The rows of a block, read exactly: a title, and a run of rows numbered from a row on.
 use Rattle.std.proofs.Common.{◌≡◌, ℕ, zero, suc, ◌+◌, ◌<◌, ◌≤◌, true, List, [], ◌∷◌, ◌++◌, length, drop, Ok, Err, Result, sym, refl, ap, ◌∙◌, append_assoc, arith}
+use Rattle.std.specs.List.{All}
+use Rattle.std.proofs.lemmas.List.Elements.{All-nil, All-cons, All-head, All-tail}
 use Rattle.mark.specs.declared.cause.Cause.{Cause}
 use Rattle.sheet.specs.Faults.{on, on_line}
 use Rattle.sheet.specs.Plan.{Row, title, tabulate, block_of}
 use Rattle.sheet.specs.Text.{line_of}
 use Rattle.sheet.specs.Reading.{Counted, Entries, Value, nothing, with_value, names_at, value_at, rows_at}
 use Rattle.sheet.specs.declared.fault.MarkFault.{MarkFault}
-use Rattle.sheet.proofs.ExactItems.{on_ok, ok_same, ok_pair}
+use Rattle.sheet.proofs.ExactItems.{on_ok, ok_pair}
 use Rattle.sheet.proofs.ExactLines.{Exactly, all_names, names_complete, names_sound}
-
-abbrev pub AllDue : {X : Type 0} → (X → Type 0) → List X → Type 0
-AllDue due [] = Unit
-AllDue due (x ∷ xs) = due x × AllDue due xs
 
 -- the lines of the values of rows a, a + 1 and so on
 abbrev pub lines_from : {X : Type 0} → (ℕ → X → List ℕ) → ℕ → List X → List ℕ
@@ -24,7 +22,7 @@ added put [] e = e
 added put (x ∷ xs) e = with_value (put x) (added put xs e)
 
 pub on_line_ok : {A : Type 0} (line block : ℕ) (r : Result A MarkFault) (x : A) → on_line line block r ≡ Ok x → r ≡ Ok x
-on_line_ok line block (Ok y) x e = ap Ok (ok_same y x e)
+on_line_ok line block (Ok y) x e = cc
 on_line_ok line block (Err f) x e = grind arith
 
 module _ {D : Type 0} (reads : List ℕ → Result D Cause) (c : Counted) (sheet : List ℕ) where
@@ -61,13 +59,13 @@ module _ {D : Type 0} (reads : List ℕ → Result D Cause) (c : Counted) (sheet
       (r.0, rw (t.1, r.1), r.2)
 
   module _ {X : Type 0} {f : ℕ → Row} {put : X → Value D} {due : X → Type 0} {text : ℕ → X → List ℕ} {n : ℕ} (rowed : Rowed f put due text n) (rest : List Row) where
-    pub block_reads : (e : Entries D) (more final : List ℕ) → GoesOn rest e more final → (a m : ℕ) (xs : List X) → length xs ≡ m → a + m ≤ n → AllDue due xs → GoesOn (tabulate a m f ++ rest) (added put xs e) (lines_from text a xs ++ more) final
+    pub block_reads : (e : Entries D) (more final : List ℕ) → GoesOn rest e more final → (a m : ℕ) (xs : List X) → length xs ≡ m → a + m ≤ n → All due xs → GoesOn (tabulate a m f ++ rest) (added put xs e) (lines_from text a xs ++ more) final
     block_reads e more final go a zero [] l h all line i s = go line i s
     block_reads e more final go a zero (x ∷ xs) l h all line i s = absurd (omega arith)
     block_reads e more final go a (suc m) [] l h all line i s = absurd (omega arith)
     block_reads e more final go a (suc m) (x ∷ xs) l h all line i s =
-        let d = rowed.reads_row a (omega arith) x all.0 i (lines_from text (a + 1) xs ++ more) (s ∙ append_assoc (text a x) (lines_from text (a + 1) xs) more) in
-        let r = block_reads e more final go (a + 1) m xs (omega arith) (omega arith) all.1 (line + 1) d.0 d.2 in
+        let d = rowed.reads_row a (omega arith) x (All-head due x xs all) i (lines_from text (a + 1) xs ++ more) (s ∙ append_assoc (text a x) (lines_from text (a + 1) xs) more) in
+        let r = block_reads e more final go (a + 1) m xs (omega arith) (omega arith) (All-tail due x xs all) (line + 1) d.0 d.2 in
         (r.0, rw (d.1, r.1), r.2)
 
   -- the first row of those that were read, and the rest
@@ -91,7 +89,7 @@ module _ {D : Type 0} (reads : List ℕ → Result D Cause) (c : Counted) (sheet
   pub record Block {X : Type 0} (put : X → Value D) (due : X → Type 0) (text : ℕ → X → List ℕ) (rest : List Row) (a m i j : ℕ) (e : Entries D) : Type 0 where
     pub values : List X
     pub many : length values ≡ m
-    pub all : AllDue due values
+    pub all : All due values
     pub others : Entries D
     pub entries : added put values others ≡ e
     pub line : ℕ
@@ -101,7 +99,7 @@ module _ {D : Type 0} (reads : List ℕ → Result D Cause) (c : Counted) (sheet
 
   module _ {X : Type 0} {f : ℕ → Row} {put : X → Value D} {due : X → Type 0} {text : ℕ → X → List ℕ} {n : ℕ} (rowed : Rowed f put due text n) (rest : List Row) where
     pub block_knows : (a m : ℕ) → a + m ≤ n → (line i j : ℕ) (e : Entries D) → rows_at reads c sheet (tabulate a m f ++ rest) line i ≡ Ok (e, j) → Block put due text rest a m i j e
-    block_knows a zero h line i j e q = record { values = []; many = refl; all = tt; others = e; entries = refl; line = line; place = i; goes_on = q; stands = refl }
+    block_knows a zero h line i j e q = record { values = []; many = refl; all = All-nil due; others = e; entries = refl; line = line; place = i; goes_on = q; stands = refl }
     block_knows a (suc m) h line i j e q =
         let t = first_row (f a) (tabulate (a + 1) m f ++ rest) line i j e q in
         let k = rowed.knows_row a (omega arith) i t.1 t.0 t.3 in
@@ -109,7 +107,7 @@ module _ {D : Type 0} (reads : List ℕ → Result D Cause) (c : Counted) (sheet
         record {
           values = k.0 ∷ b.values;
           many = ap suc b.many;
-          all = (k.2, b.all);
+          all = All-cons due k.0 b.values k.2 b.all;
           others = b.others;
           entries = ap (λ z. with_value (put k.0) z) b.entries ∙ ap (λ w. with_value w t.2) k.1 ∙ t.5;
           line = b.line;

@@ -1,8 +1,11 @@
 -- Sheets and controls: a written sheet is read as its control, and a read sheet is that control's.
-use Rattle.std.proofs.Common.{◌≡◌, ℕ, zero, suc, ◌+◌, ◌*◌, ◌/◌, ◌%◌, ◌<◌, ◌≤◌, true, ◌&&◌, eqb, ltb, List, [], ◌∷◌, ◌++◌, length, get_or, Result, sym, refl, ap, ◌∙◌, ⊎_elim, append_assoc, arith}
-use Rattle.std.proofs.lemmas.Nat.{div_below, mod_below, div-add-mod', mul-add-lt, mul-le}
+use Rattle.std.proofs.Common.{◌≡◌, ℕ, zero, suc, ◌+◌, ◌*◌, ◌/◌, ◌%◌, ◌<◌, true, ◌&&◌, eqb, ltb, List, [], ◌∷◌, ◌++◌, length, get_or, Result, sym, refl, ap, ◌∙◌, ⊎_elim, append_assoc, arith}
+use Rattle.std.proofs.Math.Nat.{lt_of_mul-lt-mul_right}
+use Rattle.std.proofs.lemmas.Nat.{div_below, mod_below, div-add-mod', mul-add-lt}
+use Rattle.std.specs.List.{All}
 use Rattle.std.proofs.lemmas.List.{ext_get_or}
-use Rattle.std.proofs.lemmas.Bool.{and_parts, or_cases, or_left, and_from, eq-eqb, eqb-true, lt-ltb, ltb-true, cases_lt}
+use Rattle.std.proofs.lemmas.List.Elements.{All-nil, All-cons, All-get_or}
+use Rattle.std.proofs.lemmas.Bool.{and_parts, or_cases, or_left, and_from, eq-eqb, eqb-true, lt-ltb, ltb-true}
 use Rattle.mark.specs.declared.cause.Cause.{Cause}
 use Rattle.theory.specs.Control.{ControlValue, Lawful}
 use Rattle.theory.specs.Flows.{Flow, SelfFlows, FlowsWithin}
@@ -10,17 +13,14 @@ use Rattle.sheet.specs.Plan.{Row, title, owner, step, shown, tabulate, counts_ti
 use Rattle.sheet.specs.Text.{line_of, row_text, rows_text, counts_text, flows_text, flow_pairs, sheet_text}
 use Rattle.sheet.specs.Reading.{Counted, Sheet}
 use Rattle.sheet.specs.Exact.{KindLaws, sheet_of, control_of, among, flows_said, WrittenIsRead, ReadIsWritten}
-use Rattle.sheet.proofs.ExactBlocks.{AllDue, lines_from}
+use Rattle.sheet.proofs.Dues.{length_tabulate}
+use Rattle.sheet.proofs.ExactBlocks.{lines_from}
 use Rattle.sheet.proofs.ExactFlows.{pairs_listed, among_within, said_pairs}
 use Rattle.sheet.proofs.ExactSheets.{names_of, counts_of, displays_on, steps_on, owners_on, owner_line, step_line, shown_line, Below, SheetDue, whole_text, sheet_complete, sheet_sound}
 
-pub length_tabulate : {A : Type 0} (a n : ℕ) (f : ℕ → A) → length (tabulate a n f) ≡ n
-length_tabulate a zero f = refl
-length_tabulate a (suc n) f = ap suc (length_tabulate (a + 1) n f)
-
-pub tabulate_due : {A : Type 0} (due : A → Type 0) (a n : ℕ) (f : ℕ → A) → ((r : ℕ) → r < a + n → due (f r)) → AllDue due (tabulate a n f)
-tabulate_due due a zero f h = tt
-tabulate_due due a (suc n) f h = (h a (omega arith), tabulate_due due (a + 1) n f (λ r l. h r (omega arith)))
+pub tabulate_due : {A : Type 0} (due : A → Type 0) (a n : ℕ) (f : ℕ → A) → ((r : ℕ) → r < a + n → due (f r)) → All due (tabulate a n f)
+tabulate_due due a zero f h = All-nil due
+tabulate_due due a (suc n) f h = All-cons due (f a) (tabulate (a + 1) n f) (h a (omega arith)) (tabulate_due due (a + 1) n f (λ r l. h r (omega arith)))
 
 get_or-tabulate : {A : Type 0} (a n : ℕ) (f : ℕ → A) (i : ℕ) (d : A) → i < n → get_or (tabulate a n f) i d ≡ f (a + i)
 get_or-tabulate a zero f i d h = absurd (omega arith)
@@ -32,11 +32,6 @@ entries_tabulated : {A : Type 0} (xs : List A) (n : ℕ) (f : ℕ → A) (d : A)
 entries_tabulated xs n f d l h =
     ext_get_or d (tabulate 0 n f) xs (length_tabulate 0 n f ∙ sym l)
     (λ i k. let small : i < n = omega (arith, length_tabulate 0 n f) in get_or-tabulate 0 n f i d small ∙ ap f (omega arith) ∙ h i small)
-
-due_there : {A : Type 0} (due : A → Type 0) (xs : List A) (i : ℕ) (d : A) → AllDue due xs → i < length xs → due (get_or xs i d)
-due_there due [] i d all h = absurd (omega arith)
-due_there due (x ∷ xs) zero d all h = all.0
-due_there due (x ∷ xs) (suc i) d all h = due_there due xs i d all.1 (omega arith)
 
 module _ {D : Type 0} (kind : List ℕ) (mark : D → List ℕ) (v : ControlValue D) where
   block_text : {X : Type 0} (f : ℕ → Row) (text : ℕ → X → List ℕ) (g : ℕ → X) → ((r : ℕ) → row_text kind mark v (f r) ≡ text r (g r)) → (rest : List Row) (more : List ℕ) (a n : ℕ)
@@ -108,15 +103,15 @@ module _ {D : Type 0} (absent : D) (x : Sheet D) (due : SheetDue x) where
     commands_count = due.counts.1;
     consoles_count = due.counts.2;
     starts = due.counts.3;
-    owned = λ c h. below (get_or x.entries.owners c 0) x.counted.consoles due.counts.2.0 (due_there (Below x.counted.consoles) x.entries.owners c 0 due.tables.owners_due (omega (arith, due.tables.owners_many)));
+    owned = λ c h.
+        let b = All-get_or (Below x.counted.consoles) x.entries.owners c 0 (omega (arith, due.tables.owners_many)) due.tables.owners_due in
+        omega (arith, b.1, due.counts.2.0);
     stays = λ s c h k.
         let i : ℕ = s * x.counted.commands + c in
         let there : i < length x.entries.steps = omega (arith, due.tables.steps_many, mul-add-lt s x.counted.commands c x.counted.states h k) in
-        below (get_or x.entries.steps i 0) x.counted.states due.counts.0.0 (due_there (Below x.counted.states) x.entries.steps i 0 due.tables.steps_due there);
+        let b = All-get_or (Below x.counted.states) x.entries.steps i 0 there due.tables.steps_due in
+        omega (arith, b.1, due.counts.0.0);
   }
-    where
-      below : (w n : ℕ) → 1 ≤ n → Below n w → w < n
-      below w n some b = omega (arith, b.1)
 
   said_selves : SelfFlows x.counted.consoles (flows_said x)
   said_selves u h = or_left (eqb u u && ltb u x.counted.consoles) _ (and_from (eqb u u) (ltb u x.counted.consoles) (eq-eqb u u refl) (lt-ltb u x.counted.consoles h))
@@ -128,11 +123,8 @@ module _ {D : Type 0} (absent : D) (x : Sheet D) (due : SheetDue x) where
       (λ (s : (eqb u v && ltb u k) ≡ true). let p = and_parts (eqb u v) (ltb u k) s in (ltb-true u k p.1, omega (arith, eqb-true u v p.0, ltb-true u k p.1)))
       (λ (s : (ltb v k && among (u * k + v) x.flows) ≡ true).
       let p = and_parts (ltb v k) (among (u * k + v) x.flows) s in
-      (row u v k (among_within k 0 x.flows (u * k + v) due.pairs p.1), ltb-true v k p.0))
+      (let l = among_within k 0 x.flows (u * k + v) due.pairs p.1 in lt_of_mul-lt-mul_right k (omega arith), ltb-true v k p.0))
       (or_cases (eqb u v && ltb u k) (ltb v k && among (u * k + v) x.flows) e)
-    where
-      row : (u v k : ℕ) → u * k + v < k * k → u < k
-      row u v k h = ⊎_elim (λ (l : u < k). l) (λ (l : k ≤ u). absurd (omega (arith, mul-le k k u k l (omega arith)))) (cases_lt u k)
 
 module _ {D : Type 0} {kind : List ℕ} {mark : D → List ℕ} {reads : List ℕ → Result D Cause} (laws : KindLaws kind mark reads) where
   pub read_written : ReadIsWritten kind mark reads

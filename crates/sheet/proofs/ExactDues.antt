@@ -1,5 +1,5 @@
 -- Which runs are accepted where a number, a name or a display is due: its text, and no other.
-use Rattle.std.proofs.Common.{◌≡◌, ℕ, ◌<◌, ◌≤◌, Bool, true, false, cond, not, ◌&&◌, ◌||◌, eqb, leb, List, [], ◌∷◌, ◌++◌, length, drop, Some, None, Ok, Err, decimal, Decides, Option, Result, refl, ap, ◌∙◌, arith, rules}
+use Rattle.std.proofs.Common.{◌≡◌, ℕ, ◌<◌, ◌≤◌, Bool, true, false, not, ◌&&◌, ◌||◌, eqb, leb, List, [], ◌∷◌, ◌++◌, length, drop, Some, None, Ok, decimal, Decides, Option, Result, refl, ap, ◌∙◌, arith, rules}
 use Rattle.std.proofs.lemmas.Slice.Eq.{compares_Decides}
 use Rattle.std.proofs.lemmas.Bool.{le-leb, leb-true, eqb-true, eq-eqb}
 use Rattle.std.proofs.lemmas.Bool.Decides.{nat_tests}
@@ -39,13 +39,11 @@ number_due least most small = record {
   alone = λ bs n. sorted bs n (sort_of bs) refl;
 }
   where
-    judged : (t u : Bool) (c d : Cause) (m n : ℕ) → cond t (cond u (Ok m) (Err c)) (Err d) ≡ Ok n → (t ≡ true) × (u ≡ true) × (m ≡ n)
-    judged t u c d m n e = (grind arith, grind arith, grind arith)
-
     from : (bs : List ℕ) (n : ℕ) → sort_of bs ≡ number → (o : Option ℕ) → number_in bs ≡ o → number_reads least most bs ≡ Ok n → ((least ≤ n) × (n ≤ most)) × (bs ≡ decimal n)
     from bs n s None q e = let e' = rw (s, q) at e in grind arith
     from bs n s (Some m) q e =
-        let j = judged (leb least m) (leb m most) _ _ m n (rw (s, q) at e) in
+        let e' = rw (s, q) at e in
+        let j : (leb least m ≡ true) × (leb m most ≡ true) × (m ≡ n) = (grind arith, grind arith, grind arith) in
         ((omega (arith, leb-true least m j.0, j.2), omega (arith, leb-true m most j.1, j.2)), (decimal_alone bs m q).1 ∙ ap decimal j.2)
 
     sorted : (bs : List ℕ) (n : ℕ) (s : Sort) → sort_of bs ≡ s → number_reads least most bs ≡ Ok n → ((least ≤ n) × (n ≤ most)) × (bs ≡ decimal n)
@@ -62,13 +60,11 @@ exact_due n small = record {
   alone = λ bs k. sorted bs k (sort_of bs) refl;
 }
   where
-    judged : (t : Bool) (c : Cause) (m k : ℕ) → cond t (Ok m) (Err c) ≡ Ok k → (t ≡ true) × (m ≡ k)
-    judged t c m k e = (grind arith, grind arith)
-
     from : (bs : List ℕ) (k : ℕ) → sort_of bs ≡ number → (o : Option ℕ) → number_in bs ≡ o → exact_reads n bs ≡ Ok k → (k ≡ n) × (bs ≡ decimal k)
     from bs k s None q e = let e' = rw (s, q) at e in grind arith
     from bs k s (Some m) q e =
-        let j = judged (eqb m n) _ m k (rw (s, q) at e) in
+        let e' = rw (s, q) at e in
+        let j : (eqb m n ≡ true) × (m ≡ k) = (grind arith, grind arith) in
         (omega (arith, eqb-true m n j.0, j.1), (decimal_alone bs m q).1 ∙ ap decimal j.1)
 
     sorted : (bs : List ℕ) (k : ℕ) (s : Sort) → sort_of bs ≡ s → exact_reads n bs ≡ Ok k → (k ≡ n) × (bs ≡ decimal k)
@@ -79,7 +75,7 @@ exact_due n small = record {
 
 -- a name is not a number: its first byte is a letter
 pub sort_name : (w : List ℕ) → is_name w ≡ true → sort_of w ≡ name
-sort_name w h = named (is_number w) (is_name w) _ (number_not w h) h
+sort_name w h = let q = number_not w h in rw (q, h)
   where
     number_not : (bs : List ℕ) → is_name bs ≡ true → is_number bs ≡ false
     number_not [] e = refl
@@ -87,9 +83,6 @@ sort_name w h = named (is_number w) (is_name w) _ (number_not w h) h
       where
         letter : (b n : ℕ) (r q : Bool) → (leb 1 n && (leb n 8 && (small_letter b && r))) ≡ true → (leb 1 n && (leb n 5 && ((leb n 1 || not (eqb b 48)) && (digit b && q)))) ≡ false
         letter b n r q e = grind (arith, nat_tests)
-
-    named : (a b : Bool) (c : Sort) → a ≡ false → b ≡ true → cond a number (cond b name c) ≡ name
-    named a b c e f = cc
 
 pub name_marks : (w : List ℕ) → is_name w ≡ true → (each mark_byte w ≡ true) × (1 ≤ length w) × (length w ≤ 8)
 name_marks w h =
@@ -114,10 +107,7 @@ name_due w named = record {
 }
   where
     sorted : (bs : List ℕ) (u : Unit {0}) (s : Sort) → sort_of bs ≡ s → name_reads w bs ≡ Ok u → bs ≡ w
-    sorted bs u name s e = (same_bytes_decides bs w).0 (judged (same_bytes bs w) _ u (rw s at e))
-      where
-        judged : (t : Bool) (c : Cause) (u : Unit {0}) → cond t (Ok tt) (Err c) ≡ Ok u → t ≡ true
-        judged t c u e = grind arith
+    sorted bs u name s e = let e' = rw s at e in (same_bytes_decides bs w).0 (grind arith)
     sorted bs u number s e = let e' = rw s at e in grind arith
     sorted bs u negative s e = let e' = rw s at e in grind arith
     sorted bs u no_mark s e = let e' = rw s at e in grind arith

@@ -2,7 +2,7 @@
 use Rattle.std.proofs.Common.{◌≡◌, ℕ, zero, suc, ◌+◌, ◌*◌, ◌/◌, ◌%◌, ◌<◌, ◌≤◌, Bool, true, false, cond, not, ◌&&◌, ◌||◌, eqb, ltb, leb, ◌⊎◌, List, [], ◌∷◌, ◌++◌, length, drop, Ok, Err, decimal, Result, sym, refl, ap, ◌∙◌, subst, inl, inr, ⊎_elim, arith}
 use Rattle.std.proofs.lemmas.Nat.{div-add-mod', mod_below}
 use Rattle.std.proofs.lemmas.List.{length-append, length-drop, drop_all}
-use Rattle.std.proofs.lemmas.Bool.{lt-leb, le-leb, leb-true, or_from, or_left, or_cases, ne_eqb, eq-eqb, eqb-true, cond-true, cond-false, cases_eq}
+use Rattle.std.proofs.lemmas.Bool.{and_from, and_parts, true≢false, cond_both, lt-leb, le-leb, leb-true, or_from, or_left, or_cases, ne_eqb, eq-eqb, eqb-true, cond-true, cond-false, cases_eq}
 use Rattle.std.proofs.lemmas.Bool.Decides.{nat_tests}
 use Rattle.theory.specs.Limits.{Count, most_consoles}
 use Rattle.theory.specs.Flows.{Flow}
@@ -27,19 +27,12 @@ end_here sheet i e = le-leb (length sheet) i (omega (arith, length-drop i sheet,
 flow_line_some : (k p : ℕ) → 1 ≤ length (flow_line k p)
 flow_line_some k p = omega (arith, length-append (decimal (p / k)) (blank ∷ line_of (decimal (p % k) ∷ [])))
 
-comes : (low p from to : ℕ) → low ≤ p → (from ≡ to → ⊥) → (leb low p && not (eqb from to)) ≡ true
-comes low p from to h n = grind (arith, nat_tests)
-
-came : (low p from to : ℕ) → (leb low p && not (eqb from to)) ≡ true → (low ≤ p) × (from ≡ to → ⊥)
-came low p from to e = (grind (arith, nat_tests), λ q. grind (arith, nat_tests))
-
 cond_ok : {A F : Type 0} (t : Bool) (x : A) (r : Result A F) (z : A) → cond t (Ok x) r ≡ Ok z → ((t ≡ true) × (x ≡ z)) ⊎ ((t ≡ false) × (r ≡ Ok z))
-cond_ok true x r z e = inl (refl, ok_same x z e)
+cond_ok true x r z e = inl (refl, cc)
 cond_ok false x r z e = inr (refl, e)
 
 cond_pass : {A F : Type 0} (t : Bool) (r : Result A F) (f : F) (z : A) → cond t r (Err f) ≡ Ok z → (t ≡ true) × (r ≡ Ok z)
-cond_pass true r f z e = (refl, e)
-cond_pass false r f z e = grind arith
+cond_pass t r f z e = (grind arith, grind arith)
 
 module _ (k : ℕ) (counts : Count most_consoles k) (sheet : List ℕ) where
   pub flows_complete : (room low : ℕ) → k * k ≤ room + low → (ps : List ℕ) → ListedFrom k low ps → (line i : ℕ) → drop i sheet ≡ flows_text k ps → flows_at k sheet room low line i ≡ Ok ps
@@ -49,28 +42,32 @@ module _ (k : ℕ) (counts : Count most_consoles k) (sheet : List ℕ) where
   flows_complete (suc room) low h (p ∷ ps) l line i e =
       let here = lt-leb (length sheet) i (before_end sheet i (flow_line k p) (flows_text k ps) e (flow_line_some k p)) in
       let f = (flow_exactly k counts sheet).reads p l.1 i (flows_text k ps) e in
-      let m : may_come k low p ≡ true = comes low p (p / k) (p % k) l.0 l.2 in
+      let m : may_come k low p ≡ true = and_from _ _ (le-leb low p l.0) (ap not (ne_eqb (p / k) (p % k) l.2)) in
       let r = flows_complete room (p + 1) (omega (arith, l.0)) ps l.3 (line + 1) f.0 f.2 in
       rw (f.1, here, m, r)
+
+  -- nothing more where the sheet ends
+  ended : (i low : ℕ) (ps : List ℕ) → (leb (length sheet) i ≡ true) × ([] ≡ ps) → ListedFrom k low ps × (drop i sheet ≡ flows_text k ps)
+  ended i low ps d = subst (λ (l : List ℕ). ListedFrom k low l × (drop i sheet ≡ flows_text k l)) d.1 (tt, drop_all i sheet (leb-true (length sheet) i d.0))
 
   pub flows_sound : (room low line i : ℕ) (ps : List ℕ) → flows_at k sheet room low line i ≡ Ok ps → ListedFrom k low ps × (drop i sheet ≡ flows_text k ps)
   flows_sound zero low line i ps e =
       ⊎_elim
-      (λ (d : (leb (length sheet) i ≡ true) × ([] ≡ ps)). subst (λ (l : List ℕ). ListedFrom k low l × (drop i sheet ≡ flows_text k l)) d.1 (tt, drop_all i sheet (leb-true (length sheet) i d.0)))
+      (ended i low ps)
       (λ d. let y = on_ok (on_line line 5 (flow_at k sheet i)) _ ps d.1 in let n = y.2 in grind arith)
       (cond_ok (leb (length sheet) i) [] _ ps e)
   flows_sound (suc room) low line i ps e =
       ⊎_elim
-      (λ (d : (leb (length sheet) i ≡ true) × ([] ≡ ps)). subst (λ (l : List ℕ). ListedFrom k low l × (drop i sheet ≡ flows_text k l)) d.1 (tt, drop_all i sheet (leb-true (length sheet) i d.0)))
+      (ended i low ps)
       (λ d.
       let y = on_ok (on_line line 5 (flow_at k sheet i)) _ ps d.1 in
       let c = cond_pass (may_come k low y.0.0) _ _ ps y.2 in
       let r = on_ok (flows_at k sheet room (y.0.0 + 1) (line + 1) y.0.1) _ ps c.1 in
       let f = (flow_exactly k counts sheet).knows i y.0.1 y.0.0 (on_line_ok line 5 (flow_at k sheet i) y.0 y.1) in
-      let m = came low y.0.0 (y.0.0 / k) (y.0.0 % k) c.0 in
+      let m = and_parts (leb low y.0.0) (not (eqb (y.0.0 / k) (y.0.0 % k))) c.0 in
       let s = flows_sound room (y.0.0 + 1) (line + 1) y.0.1 r.0 r.1 in
       subst (λ (l : List ℕ). ListedFrom k low l × (drop i sheet ≡ flows_text k l)) (ok_same (y.0.0 ∷ r.0) ps r.2)
-      ((m.0, f.0, m.1, s.0), f.1 ∙ ap (λ l. flow_line k y.0.0 ++ l) s.1))
+      ((leb-true low y.0.0 m.0, f.0, λ q. true≢false (sym m.1 ∙ ap not (eq-eqb (y.0.0 / k) (y.0.0 % k) q)), s.0), f.1 ∙ ap (λ l. flow_line k y.0.0 ++ l) s.1))
       (cond_ok (leb (length sheet) i) [] _ ps e)
 
 -- pairs that may be listed from a later one on may be listed from an earlier one on
@@ -80,17 +77,13 @@ listed_earlier k low below (p ∷ ps) h l = (omega (arith, l.0), l.1, l.2, l.3)
 
 kept_listed : (k : ℕ) (F : Flow) (a n : ℕ) → a + n ≤ k * k → ListedFrom k a (pairs_kept (listed k F) (tabulate a n (λ p. p)))
 kept_listed k F a zero h = tt
-kept_listed k F a (suc n) h = by (listed k F a) refl (kept_listed k F (a + 1) n (omega arith))
+kept_listed k F a (suc n) h =
+    let rest : List ℕ = pairs_kept (listed k F) (tabulate (a + 1) n (λ p. p)) in
+    let l = kept_listed k F (a + 1) n (omega arith) in
+    cond_both (listed k F a) (a ∷ rest) rest (ListedFrom k a) (λ e. (omega arith, omega arith, parted (a / k) (a % k) (F (a / k) (a % k)) e, l)) (λ e. listed_earlier k (a + 1) a rest (omega arith) l)
   where
-    rest : List ℕ
-    rest = pairs_kept (listed k F) (tabulate (a + 1) n (λ p. p))
-
-    by : (t : Bool) → listed k F a ≡ t → ListedFrom k (a + 1) rest → ListedFrom k a (cond t (a ∷ rest) rest)
-    by true e l = (omega arith, omega arith, parted (a / k) (a % k) (F (a / k) (a % k)) e, l)
-      where
-        parted : (u v : ℕ) (t : Bool) → (not (eqb u v) && t) ≡ true → u ≡ v → ⊥
-        parted u v t e q = grind (arith, nat_tests)
-    by false e l = listed_earlier k (a + 1) a rest (omega arith) l
+    parted : (u v : ℕ) (t : Bool) → (not (eqb u v) && t) ≡ true → u ≡ v → ⊥
+    parted u v t e q = grind (arith, nat_tests)
 
 -- the pairs of flows are listed ascending, without self flows
 pub pairs_listed : (k : ℕ) (F : Flow) → ListedFrom k 0 (flow_pairs k F)
@@ -123,7 +116,7 @@ module _ (k : ℕ) (f : ℕ → Bool) where
       ∙ ap (λ r. a ∷ r) (kept_are (a + 1) n ps (listed_earlier k (p + 1) (a + 1) ps (omega arith) l.3) (omega arith) (λ r low high. same r (omega arith) high ∙ other r p (among r ps) (λ e. omega arith)))
       ∙ ap (λ r. r ∷ ps) q)
       (λ (q : a ≡ p → ⊥).
-      let later : a + 1 ≤ p = above a p l.0 q in
+      let later : a + 1 ≤ p = omega (arith, l.0, q) in
       cond-false (f a) _ _ (same a (omega arith) (omega arith) ∙ among_below k (a + 1) (p ∷ ps) a (later, l.1, l.2, l.3) (omega arith))
       ∙ kept_are (a + 1) n (p ∷ ps) (later, l.1, l.2, l.3) (omega arith) (λ r low high. same r (omega arith) high))
       (cases_eq a p)
@@ -131,18 +124,9 @@ module _ (k : ℕ) (f : ℕ → Bool) where
       other : (r p : ℕ) (t : Bool) → (r ≡ p → ⊥) → (eqb r p || t) ≡ t
       other r p t h = grind (arith, nat_tests)
 
-      above : (a p : ℕ) → a ≤ p → (a ≡ p → ⊥) → a + 1 ≤ p
-      above a p h n = omega arith
-
 -- the flows that are said by pairs in order, with all self flows, are listed as those pairs
 pub said_pairs : (k : ℕ) → 1 ≤ k → (ps : List ℕ) → ListedFrom k 0 ps → flow_pairs k (λ u v. (eqb u v && ltb u k) || (ltb v k && among (u * k + v) ps)) ≡ ps
 said_pairs k some ps l = kept_are k _ 0 (k * k) ps l (omega arith) (λ p low high. ap (λ q. not (eqb (p / k) (p % k)) && ((eqb (p / k) (p % k) && ltb (p / k) k) || (ltb (p % k) k && among q ps))) (div-add-mod' p k) ∙ said (p / k) (p % k) k (among p ps) (mod_below p k some) (among_self k 0 ps p l))
   where
     said : (u v k : ℕ) (t : Bool) → v < k → (u ≡ v → t ≡ false) → (not (eqb u v) && ((eqb u v && ltb u k) || (ltb v k && t))) ≡ t
-    said u v k t h n = ⊎_elim (λ (e : u ≡ v). same_case e) (λ (e : u ≡ v → ⊥). other_case e) (cases_eq u v)
-      where
-        same_case : u ≡ v → (not (eqb u v) && ((eqb u v && ltb u k) || (ltb v k && t))) ≡ t
-        same_case e = let f = n e in grind (arith, nat_tests)
-
-        other_case : (u ≡ v → ⊥) → (not (eqb u v) && ((eqb u v && ltb u k) || (ltb v k && t))) ≡ t
-        other_case e = grind (arith, nat_tests)
+    said u v k t h n = ⊎_elim (λ (e : u ≡ v). let f = n e in grind (arith, nat_tests)) (λ (e : u ≡ v → ⊥). grind (arith, nat_tests)) (cases_eq u v)

@@ -1,7 +1,7 @@
 -- One item of a sheet, read exactly: a run, and the separator behind it.
-use Rattle.std.proofs.Common.{◌≡◌, ℕ, ◌+◌, ◌<◌, ◌≤◌, Bool, true, false, cond, ◌||◌, eqb, leb, List, [], ◌∷◌, ◌++◌, length, get_or, drop, Ok, Err, Result, sym, refl, ap, ◌∙◌, arith}
+use Rattle.std.proofs.Common.{◌≡◌, ℕ, ◌+◌, ◌<◌, ◌≤◌, Bool, true, false, ◌||◌, eqb, leb, List, [], ◌∷◌, ◌++◌, length, get_or, drop, Ok, Err, Result, sym, refl, ap, ◌∙◌, arith}
 use Rattle.std.proofs.lemmas.List.{length-append, length-drop, drop-drop, drop_at, drop_more}
-use Rattle.std.proofs.lemmas.Bool.{and_parts, cond-true, cond-false, lt-leb, leb-false, eqb-true, eq-eqb}
+use Rattle.std.proofs.lemmas.Bool.{and_parts, cond_both, cond-true, cond-false, lt-leb, leb-false, eqb-true, eq-eqb}
 use Rattle.std.proofs.lemmas.Bool.Decides.{nat_tests}
 use Rattle.mark.specs.Runs.{each}
 use Rattle.mark.specs.declared.cause.Cause.{Cause}
@@ -18,28 +18,21 @@ pub ok_same : {A F : Type 0} (x y : A) → ◌≡◌ {A = Result A F} (Ok x) (Ok
 ok_same x y e = cc
 
 pub ok_pair : {A B F : Type 0} (a b : A) (c d : B) → ◌≡◌ {A = Result (A × B) F} (Ok (a, c)) (Ok (b, d)) → (a ≡ b) × (c ≡ d)
-ok_pair a b c d e = let p = ok_same (a, c) (b, d) e in (ap (λ q. q.0) p, ap (λ q. q.1) p)
+ok_pair a b c d e = (grind arith, grind arith)
 
 abbrev pub separates : ℕ → Bool
 separates b = eqb b blank || eqb b newline
 
 pub run_first : (bs : List ℕ) → bs ≡ run_of bs ++ drop (length (run_of bs)) bs
 run_first [] = refl
-run_first (b ∷ bs) = by (separates b) (run_first bs)
-  where
-    by : (t : Bool) → bs ≡ run_of bs ++ drop (length (run_of bs)) bs → b ∷ bs ≡ cond t [] (b ∷ run_of bs) ++ drop (length (cond t [] (b ∷ run_of bs))) (b ∷ bs)
-    by true e = refl
-    by false e = ap (λ l. b ∷ l) e
-
-mark_byte_parts_not : (b : ℕ) → mark_byte b ≡ true → separates b ≡ false
-mark_byte_parts_not b e = grind (arith, nat_tests)
+run_first (b ∷ bs) = cond_both (separates b) [] (b ∷ run_of bs) (λ t. b ∷ bs ≡ t ++ drop (length t) (b ∷ bs)) (λ e. refl) (λ e. ap (λ l. b ∷ l) (run_first bs))
 
 -- a run is a text without separators that stands before one
 pub run_whole : (t : List ℕ) (b : ℕ) (more : List ℕ) → each mark_byte t ≡ true → separates b ≡ true → run_of (t ++ (b ∷ more)) ≡ t
 run_whole [] b more clean s = cond-true (separates b) [] (b ∷ run_of more) s
 run_whole (a ∷ t) b more clean s =
     let p = and_parts (mark_byte a) (each mark_byte t) clean in
-    cond-false (separates a) [] (a ∷ run_of (t ++ (b ∷ more))) (mark_byte_parts_not a p.0) ∙ ap (λ l. a ∷ l) (run_whole t b more p.1 s)
+    cond-false (separates a) [] (a ∷ run_of (t ++ (b ∷ more))) (let m = p.0 in grind (arith, nat_tests)) ∙ ap (λ l. a ∷ l) (run_whole t b more p.1 s)
 
 -- what stands at a place, and what stands behind it
 module _ (sheet : List ℕ) (i : ℕ) (t more : List ℕ) (stands : drop i sheet ≡ t ++ more) where
@@ -65,13 +58,10 @@ module _ (b : ℕ) (sheet : List ℕ) (i : ℕ) where
 
   pub byte_sound : (j : ℕ) → byte_at b sheet i ≡ Ok j → drop i sheet ≡ b ∷ drop j sheet
   byte_sound j e =
-      let k = known (leb (length sheet) i) (eqb (get_or sheet i 0) b) _ _ (i + 1) j e in
+      let k : (leb (length sheet) i ≡ false) × (eqb (get_or sheet i 0) b ≡ true) × (i + 1 ≡ j) = (grind arith, grind arith, grind arith) in
       drop_more sheet i 0 (leb-false (length sheet) i k.0)
       ∙ ap (λ a. a ∷ drop (i + 1) sheet) (eqb-true (get_or sheet i 0) b k.1)
       ∙ ap (λ n. b ∷ drop n sheet) k.2
-    where
-      known : {F : Type 0} (t u : Bool) (f g : F) (k j : ℕ) → cond t (Err f) (cond u (Ok k) (Err g)) ≡ Ok j → (t ≡ false) × (u ≡ true) × (k ≡ j)
-      known t u f g k j e = (grind arith, grind arith, grind arith)
 
 module _ {A : Type 0} (reads : List ℕ → Result A Cause) (sheet : List ℕ) (i : ℕ) where
   pub mark_complete : (t more : List ℕ) (b : ℕ) (x : A) → each mark_byte t ≡ true → 1 ≤ length t → separates b ≡ true → reads t ≡ Ok x → drop i sheet ≡ t ++ (b ∷ more) → mark_at reads sheet i ≡ Ok (x, i + length t)

@@ -127,7 +127,7 @@ module _ (kind : List ℕ) (named : is_name kind ≡ true) (sheet : List ℕ) wh
       let k = on_ok (item_at (number_reads 1 most_consoles) blank sheet m.0.1) _ (c, j) m.2 in
       let s = on_ok (item_at (number_reads 0 (n.0.0 - 1)) blank sheet k.0.1) _ (c, j) k.2 in
       let y = on_ok (item_at (name_reads kind) newline sheet s.0.1) _ (c, j) s.2 in
-      let p = ok_pair _ c y.0.1 j y.2 in
+      let p = ok_same _ (c, j) y.2 in
       let states = due_known states_due blank sheet i n.0.0 n.0.1 n.1 in
       let first : Counted = record { states = n.0.0; commands = m.0.0; consoles = k.0.0; start = s.0.0 } in
       let all = told first n.0.1 m.0.1 k.0.1 s.0.1 y.0.1
@@ -136,8 +136,7 @@ module _ (kind : List ℕ) (named : is_name kind ≡ true) (sheet : List ℕ) wh
       (due_known consoles_due blank sheet m.0.1 k.0.0 k.0.1 k.1)
       (due_known (start_due n.0.0 states.0.1) blank sheet k.0.1 s.0.0 s.0.1 s.1)
       (due_known (name_due kind named) newline sheet s.0.1 y.0.0 y.0.1 y.1).1 in
-      subst (λ (a : Counted). CountsDue a × (drop i sheet ≡ counts_line kind a ++ drop j sheet)) p.0
-      (subst (λ (a : ℕ). CountsDue first × (drop i sheet ≡ counts_line kind first ++ drop a sheet)) p.1 all)
+      subst (λ (a : Counted × ℕ). CountsDue a.0 × (drop i sheet ≡ counts_line kind a.0 ++ drop a.1 sheet)) p all
     where
       told : (c : Counted) (i1 i2 i3 i4 i5 : ℕ)
           → ((1 ≤ c.states) × (c.states ≤ most_states)) × (drop i sheet ≡ decimal c.states ++ (blank ∷ drop i1 sheet))

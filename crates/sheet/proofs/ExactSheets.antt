@@ -2,6 +2,7 @@
 use Rattle.std.proofs.Common.{◌≡◌, ℕ, ◌+◌, ◌-◌, ◌*◌, ◌/◌, ◌%◌, ◌<◌, ◌≤◌, List, [], ◌∷◌, ◌++◌, length, drop, Ok, decimal, Result, sym, refl, ap, ◌∙◌, subst, arith}
 use Rattle.std.proofs.lemmas.Nat.{div_below, mod_below}
 use Rattle.std.proofs.lemmas.List.{append-nil}
+use Rattle.std.specs.List.{All}
 use Rattle.mark.specs.declared.cause.Cause.{Cause}
 use Rattle.theory.specs.Control.{ControlValue}
 use Rattle.sheet.specs.Faults.{on, on_line}
@@ -14,7 +15,7 @@ use Rattle.sheet.specs.declared.fault.SheetFault.{SheetFault}
 use Rattle.sheet.proofs.ExactItems.{on_ok, ok_same, ok_pair}
 use Rattle.sheet.proofs.ExactDues.{number_due, display_due}
 use Rattle.sheet.proofs.ExactLines.{Exactly, row_line, row_exactly, names_complete, names_sound, CountsDue, counts_line, counts_exactly}
-use Rattle.sheet.proofs.ExactBlocks.{AllDue, lines_from, added, Rowed, GoesOn, putting_reads, putting_knows, title_reads, title_knows, block_reads, block_knows, on_line_ok}
+use Rattle.sheet.proofs.ExactBlocks.{lines_from, added, Rowed, GoesOn, putting_reads, putting_knows, title_reads, title_knows, block_reads, block_knows, on_line_ok}
 use Rattle.sheet.proofs.ExactFlows.{ListedFrom, flows_complete, flows_sound}
 
 -- the names of a title
@@ -122,9 +123,9 @@ pub record EntriesDue {D : Type 0} (c : Counted) (e : Entries D) : Type 0 where
   pub owners_many : length e.owners ≡ c.commands
   pub steps_many : length e.steps ≡ c.states * c.commands
   pub displays_many : length e.displays ≡ c.states * c.consoles
-  pub owners_due : AllDue (Below c.consoles) e.owners
-  pub steps_due : AllDue (Below c.states) e.steps
-  pub displays_due : AllDue (λ d. Unit {0}) e.displays
+  pub owners_due : All (Below c.consoles) e.owners
+  pub steps_due : All (Below c.states) e.steps
+  pub displays_due : All (λ d. Unit {0}) e.displays
 
 module _ {D : Type 0} {kind : List ℕ} {mark : D → List ℕ} {reads : List ℕ → Result D Cause} (laws : KindLaws kind mark reads) (c : Counted) (due : CountsDue c) (sheet : List ℕ) where
   pub plan_reads : (e : Entries D) → EntriesDue c e → (more : List ℕ) → GoesOn reads c sheet (plan_of c) e (plan_lines mark c e more) more
@@ -157,7 +158,7 @@ module _ {D : Type 0} {kind : List ℕ} {mark : D → List ℕ} {reads : List �
     where
       told : (os ss : List ℕ) (ds : List D) (e1 e2 e3 : Entries D) (i1 i2 i3 i4 i5 i6 i7 : ℕ)
           → length os ≡ c.commands → length ss ≡ c.states * c.commands → length ds ≡ c.states * c.consoles
-          → AllDue (Below c.consoles) os → AllDue (Below c.states) ss → AllDue (λ d. Unit {0}) ds
+          → All (Below c.consoles) os → All (Below c.states) ss → All (λ d. Unit {0}) ds
           → added owned os e1 ≡ e → added stepped ss e2 ≡ e1 → added showed ds e3 ≡ e2 → no_entries ≡ e3 → i7 ≡ j
           → drop i sheet ≡ line_of (names_of owners_title) ++ drop i1 sheet
           → drop i1 sheet ≡ lines_from owner_line 0 os ++ drop i2 sheet

@@ -1,8 +1,8 @@
 -- The stores are filled from their front, entry by entry, as the rows say.
-use Rattle.std.proofs.Common.{◌≡◌, ℕ, suc, ◌+◌, ◌*◌, ◌<◌, Bool, true, false, cond, ltb, leb, List, [], ◌∷◌, ◌++◌, map, length, drop, set, Some, Ok, Err, Option, Result, sym, refl, ap, ◌∙◌, add-one, arith}
+use Rattle.std.proofs.Common.{◌≡◌, ℕ, ◌+◌, ◌*◌, ◌<◌, true, cond, ltb, leb, List, [], ◌∷◌, ◌++◌, map, length, get_or, drop, set, Some, Ok, Err, Option, Result, sym, refl, ap, ◌∙◌, arith}
 use Rattle.std.proofs.lemmas.Nat.{mul-le}
-use Rattle.std.proofs.lemmas.List.{append_assoc, append-nil, drop_at, drop-drop, length-append, length-drop, length-map, length_push, map-append, set_split, take_at}
-use Rattle.std.proofs.lemmas.Bool.{and_parts, leb-true, ltb-false}
+use Rattle.std.proofs.lemmas.List.{append_assoc, append-nil, drop_more, length-append, length-map, length_push, map-append, set_at}
+use Rattle.std.proofs.lemmas.Bool.{and_parts, cond_both, leb-true, ltb-false}
 use Rattle.mark.specs.declared.cause.Cause.{Cause}
 use Rattle.control.specs.Tables.{store_suffices}
 use Rattle.control.specs.declared.table.Counts.{Counts}
@@ -23,16 +23,15 @@ use Rattle.sheet.specs.declared.progress.Progress.{Progress}
 use Rattle.sheet.specs.declared.heading.Heading.{Heading}
 use Rattle.sheet.specs.declared.rows.Entry.{Entry}
 use Rattle.sheet.specs.declared.rows.Entry.TheVariants.{Nothing, Owner, Step, Shown}
+use Rattle.sheet.proofs.Going.{on_itself}
 use Rattle.sheet.proofs.Passed.{pass_lines}
 
 -- one entry more in front
 overwritten_more : {A : Type 0} (front store : List A) (n : ℕ) (w : A) → length front ≡ n → n < length store → set (overwritten front store) n w ≡ overwritten (front ++ (w ∷ [])) store
 overwritten_more front store n w e h =
-    let l = overwritten front store in
-    let room : n < length l = simp (length-append, length-drop) (omega arith) in
-    set_split l n w room
-    ∙ ap (λ t. t ++ (w ∷ drop (suc n) l)) (take_at front (drop (length front) store) n e)
-    ∙ ap (λ t. front ++ (w ∷ t)) (ap (λ m. drop m l) (sym (add-one n)) ∙ sym (drop-drop 1 n l) ∙ ap (drop 1) (drop_at front (drop (length front) store) n e) ∙ drop-drop 1 (length front) store ∙ ap (λ m. drop m store) (sym (length_push front w)))
+    ap (λ t. set (front ++ t) n w) (ap (λ m. drop m store) e ∙ drop_more store n w h)
+    ∙ set_at front (get_or store n w) (drop (n + 1) store) w n e
+    ∙ ap (λ m. front ++ (w ∷ drop m store)) (ap (λ m. m + 1) (sym e) ∙ sym (length_push front w))
     ∙ sym (append_assoc front (w ∷ []) (drop (length (front ++ (w ∷ []))) store))
 
 overwritten_same : {A : Type 0} (front store : List A) → overwritten front store ≡ overwritten (front ++ []) store
@@ -69,18 +68,10 @@ alone v = with_value (value_of v) no_entries
 
 -- at row n of `many`, the number of entries before the next row: F counts them
 counted_on : (F : Option Due → ℕ) (many n : ℕ) (more last : Due) → F (Some more) ≡ n + 1 → F (Some last) ≡ many → n < many → F (cond (ltb (n + 1) many) (Some more) (Some last)) ≡ n + 1
-counted_on F many n more last m l h = by (ltb (n + 1) many) refl
-  where
-    by : (b : Bool) → ltb (n + 1) many ≡ b → F (cond b (Some more) (Some last)) ≡ n + 1
-    by true e = m
-    by false e = omega (arith, l, ltb-false (n + 1) many e)
+counted_on F many n more last m l h = cond_both (ltb (n + 1) many) (Some more) (Some last) (λ d. F d ≡ n + 1) (λ e. m) (λ e. omega (arith, l, ltb-false (n + 1) many e))
 
 counted_still : (F : Option Due → ℕ) (many n k : ℕ) (more last : Due) → F (Some more) ≡ k → F (Some last) ≡ k → F (cond (ltb (n + 1) many) (Some more) (Some last)) ≡ k + 0
-counted_still F many n k more last m l = by (ltb (n + 1) many)
-  where
-    by : (b : Bool) → F (cond b (Some more) (Some last)) ≡ k + 0
-    by true = omega (arith, m)
-    by false = omega (arith, l)
+counted_still F many n k more last m l = cond_both (ltb (n + 1) many) (Some more) (Some last) (λ d. F d ≡ k + 0) (λ e. omega (arith, m)) (λ e. omega (arith, l))
 
 module _ {D : Type 0} (c : Counts) where
   owners_next : (d : Due) (v : Entry D) → Stands c d → Paired d v → owners_done c (next_due c d) ≡ owners_done c (Some d) + length (alone v).owners
@@ -131,14 +122,11 @@ module _ {D : Type 0} (c : Counts) (a b : ℕ) where
   displays_kept cell front store _ _ h e (shown_as n x) = overwritten_more (map cell front) store n (cell x) (length-map front cell ∙ e) h ∙ ap (λ f. overwritten f store) (sym (map-append cell front (x ∷ [])))
 
 module _ {D : Type 0} where
-  entries_same : (d e : Entries D) → d.owners ≡ e.owners → d.steps ≡ e.steps → d.displays ≡ e.displays → d ≡ e
-  entries_same d e p q r i = record { owners = p i; steps = q i; displays = r i }
-
   joined_more : (d e : Entries D) (v : Value D) → joined d (with_value v e) ≡ joined (joined d (with_value v no_entries)) e
-  joined_more d e nothing = entries_same _ _ (sym (append_assoc d.owners [] e.owners)) (sym (append_assoc d.steps [] e.steps)) (sym (append_assoc d.displays [] e.displays))
-  joined_more d e (owned w) = entries_same _ _ (sym (append_assoc d.owners (w ∷ []) e.owners)) (sym (append_assoc d.steps [] e.steps)) (sym (append_assoc d.displays [] e.displays))
-  joined_more d e (stepped t) = entries_same _ _ (sym (append_assoc d.owners [] e.owners)) (sym (append_assoc d.steps (t ∷ []) e.steps)) (sym (append_assoc d.displays [] e.displays))
-  joined_more d e (showed x) = entries_same _ _ (sym (append_assoc d.owners [] e.owners)) (sym (append_assoc d.steps [] e.steps)) (sym (append_assoc d.displays (x ∷ []) e.displays))
+  joined_more d e nothing = simp append_assoc
+  joined_more d e (owned w) = simp append_assoc
+  joined_more d e (stepped t) = simp append_assoc
+  joined_more d e (showed x) = simp append_assoc
 
   -- an entry in front of what is left goes behind what was read
   moved : (d : Entries D) (v : Value D) (R : Result (Entries D × ℕ) SheetFault) → on {A = Entries D × ℕ} {B = Entries D × ℕ} (on {B = Entries D × ℕ} R (λ z. Ok (with_value v z.0, z.1))) (λ z. Ok (joined d z.0, z.1)) ≡ on {B = Entries D × ℕ} R (λ z. Ok (joined (joined d (with_value v no_entries)) z.0, z.1))
@@ -171,12 +159,8 @@ module _ {D C : Type 0} (reads : List ℕ → Result D Cause) (h : Heading) (cel
     steps_hold = refl;
     owners_hold = refl;
     displays_hold = refl;
-    rest = whole ∙ by (left_at reads h (started a));
+    rest = whole ∙ on_itself (left_at reads h (started a));
   }
-    where
-      by : (R : Result (Entries D × ℕ) SheetFault) → R ≡ on {B = Entries D × ℕ} R (λ z. Ok (joined no_entries z.0, z.1))
-      by (Ok z) = refl
-      by (Err f) = refl
 
   module _ (p : Progress) (steps owners : List ℕ) (displays : List C) (l : Filling p steps owners displays) where
     pub filling_more : (q : Progress) (d : Due) (v : Entry D) (steps' owners' : List ℕ) (displays' : List C) → Stepped reads h p q d v → Holds (length steps₀) (length owners₀) (length displays₀) d → Stands h.counts d → steps' ≡ steps_with d v steps → owners' ≡ owners_with d v owners → displays' ≡ displays_with cell d v displays → Filling q steps' owners' displays'

@@ -1,6 +1,6 @@
 -- The flows are read one after the other, each in its turn, and are those of the board.
-use Rattle.std.proofs.Common.{◌≡◌, ℕ, zero, suc, ◌+◌, ◌*◌, ◌/◌, ◌%◌, ◌<◌, ◌≤◌, Bool, true, false, cond, ◌&&◌, ◌||◌, eqb, ltb, leb, List, [], ◌∷◌, ◌++◌, length, Some, None, Ok, Err, Option, Result, sym, refl, ap, ap₂, ◌∙◌, arith}
-use Rattle.std.proofs.Math.Bool.{or_assoc, or-false, and-or_distrib_left}
+use Rattle.std.proofs.Common.{◌≡◌, ℕ, zero, suc, ◌+◌, ◌*◌, ◌/◌, ◌%◌, ◌<◌, ◌≤◌, Bool, true, false, cond, ◌&&◌, ◌||◌, eqb, ltb, leb, List, [], ◌∷◌, ◌++◌, length, Some, None, Ok, Err, Option, Result, sym, refl, ap, ◌∙◌, arith}
+use Rattle.std.proofs.Math.Bool.{or_assoc, or-false, and-false}
 use Rattle.std.proofs.lemmas.Nat.{div-add-mod', div-mul-add, mod-mul-add, mod_below, div_below}
 use Rattle.std.proofs.lemmas.List.{append_assoc, append-nil}
 use Rattle.std.proofs.lemmas.Bool.{leb-true, leb-false, lt-ltb, lt-leb, le-leb, and_from, cond-true, cond-false}
@@ -20,6 +20,7 @@ use Rattle.sheet.specs.Reading.{flow_at, may_come, flows_at}
 use Rattle.sheet.specs.Boards.{flow_due, flow_next, Lists, BoardAs}
 use Rattle.sheet.specs.declared.fault.MarkFault.{MarkFault}
 use Rattle.sheet.specs.declared.fault.SheetFault.{SheetFault}
+use Rattle.sheet.proofs.Going.{on_itself}
 
 among_more : (x p : ℕ) (ps : List ℕ) → among x (ps ++ (p ∷ [])) ≡ (among x ps || eqb x p)
 among_more x p [] = or-false (eqb x p)
@@ -38,7 +39,7 @@ same_pair k u v p h =
     parts e = (sym (div-mul-add u k v e.0) ∙ ap (λ n. n / k) e.1, sym (mod-mul-add u k v e.0) ∙ ap (λ n. n % k) e.1)
 
 with_pair : (s v m n e : Bool) → (v && n) ≡ e → ((s || (v && m)) || e) ≡ (s || (v && (m || n)))
-with_pair s v m n e h = or_assoc s (v && m) e ∙ ap (λ t. s || t) (ap (λ t. (v && m) || t) (sym h) ∙ sym (and-or_distrib_left v m n))
+with_pair s v m n e h = grind arith
 
 pub allowed : (k p : ℕ) → 0 < k → p < k * k → allow_answer k (p / k) (p % k) ≡ Ok tt
 allowed k p h l = cond-true _ _ _ (and_from _ _ (lt-ltb (p / k) k (div_below p k k h l)) (lt-ltb (p % k) k (mod_below p k h)))
@@ -57,14 +58,9 @@ pub lists_none : (c : Counts) (b : Board) → consoles_of (flows_of b) ≡ c.con
 lists_none c b consoles commands flows lockouts = record {
   consoles = consoles;
   commands = commands;
-  flows = λ u v. flows u v ∙ by (eqb u v && ltb u c.consoles) (ltb v c.consoles);
+  flows = λ u v. flows u v ∙ sym (simp (and-false, or-false));
   lockouts = lockouts;
 }
-  where
-    by : (s v : Bool) → s ≡ (s || (v && false))
-    by true v = refl
-    by false true = refl
-    by false false = refl
 
 -- A row of block 5 was read, or its fault; `may` says whether the pair may come, and `g` is the
 -- fault if it may not.
@@ -73,19 +69,11 @@ module _ (line : ℕ) (may : ℕ → Bool) (g : MarkFault) where
   due F = on_line line 5 (on F (λ z. cond (may z.0) (Ok z) (Err g)))
 
   goes_on : {B : Type 0} (next : ℕ × ℕ → Result B SheetFault) (F : Result (ℕ × ℕ) MarkFault) → on (on_line line 5 F) (λ z. cond (may z.0) (next z) (on_line line 5 (Err g))) ≡ on (due F) next
-  goes_on next (Ok z) = by (may z.0)
-    where
-      by : (b : Bool) → cond b (next z) (on_line line 5 (Err g)) ≡ on (on_line line 5 (cond b (Ok z) (Err g))) next
-      by true = refl
-      by false = refl
+  goes_on next (Ok z) = grind arith
   goes_on next (Err f) = refl
 
   stops : {B : Type 0} (F : Result (ℕ × ℕ) MarkFault) (f : SheetFault) → Err f ≡ due F → on {B = B} (on_line line 5 F) (λ z. on_line line 5 (Err g)) ≡ Err f
-  stops {B} (Ok z) f e = by (may z.0) e
-    where
-      by : (b : Bool) → Err f ≡ on_line line 5 (cond b (Ok z) (Err g)) → on_line {A = B} line 5 (Err g) ≡ Err f
-      by true e = grind arith
-      by false e = cc
+  stops (Ok z) f e = grind arith
   stops (Err h) f e = cc
 
 module _ (k : ℕ) (s : List ℕ) (low line i : ℕ) where
@@ -111,30 +99,18 @@ module _ (k : ℕ) (s : List ℕ) (low line i : ℕ) where
 
 -- what the next flow says: that the sheet goes on, and the flow; the end; the fault
 next_some : (b : Bool) (n : ℕ) (R : Result (ℕ × ℕ) SheetFault) (p j : ℕ) → Ok (Some p, j) ≡ cond b (Ok (None, n)) (on {B = Option ℕ × ℕ} R (λ y. Ok (Some y.0, y.1))) → (b ≡ false) × (Ok (p, j) ≡ R)
-next_some true n R p j e =
-    let q : ◌≡◌ {A = Option ℕ × ℕ} (Some p, j) (None, n) = cc in
-    let pair : ◌≡◌ {A = Option ℕ} (Some p) None = ap (λ (t : Option ℕ × ℕ). t.0) q in
-    let z : ◌≡◌ {A = ℕ} 0 1 = cc in
-    absurd (omega arith)
-next_some false n (Ok y) p j e =
-    let q : ◌≡◌ {A = Option ℕ × ℕ} (Some p, j) (Some y.0, y.1) = cc in
-    let pair : ◌≡◌ {A = Option ℕ} (Some p) (Some y.0) = ap (λ (t : Option ℕ × ℕ). t.0) q in
-    let same : p ≡ y.0 = cc in
-    (refl, ap₂ (λ a b. Ok (a, b)) same (ap (λ (t : Option ℕ × ℕ). t.1) q))
-next_some false n (Err f) p j e = let q : ◌≡◌ {A = ℕ} 0 1 = cc in absurd (omega arith)
+next_some true n R p j e = grind arith
+next_some false n (Ok y) p j e = (refl, grind arith)
+next_some false n (Err f) p j e = grind arith
 
 next_none : (b : Bool) (n : ℕ) (R : Result (ℕ × ℕ) SheetFault) (j : ℕ) → Ok (None, j) ≡ cond b (Ok (None, n)) (on {B = Option ℕ × ℕ} R (λ y. Ok (Some y.0, y.1))) → b ≡ true
 next_none true n R j e = refl
-next_none false n (Ok y) j e =
-    let q : ◌≡◌ {A = Option ℕ × ℕ} (None, j) (Some y.0, y.1) = cc in
-    let pair : ◌≡◌ {A = Option ℕ} None (Some y.0) = ap (λ (t : Option ℕ × ℕ). t.0) q in
-    let z : ◌≡◌ {A = ℕ} 0 1 = cc in
-    absurd (omega arith)
-next_none false n (Err f) j e = let q : ◌≡◌ {A = ℕ} 0 1 = cc in absurd (omega arith)
+next_none false n (Ok y) j e = grind arith
+next_none false n (Err f) j e = grind arith
 
 next_err : (b : Bool) (n : ℕ) (R : Result (ℕ × ℕ) SheetFault) (f : SheetFault) → Err f ≡ cond b (Ok (None, n)) (on {B = Option ℕ × ℕ} R (λ y. Ok (Some y.0, y.1))) → (b ≡ false) × (Err f ≡ R)
-next_err true n R f e = let q : ◌≡◌ {A = ℕ} 0 1 = cc in absurd (omega arith)
-next_err false n (Ok y) f e = let q : ◌≡◌ {A = ℕ} 0 1 = cc in absurd (omega arith)
+next_err true n R f e = grind arith
+next_err false n (Ok y) f e = grind arith
 next_err false n (Err g) f e = (refl, cc)
 
 module _ (k low line : ℕ) (s : List ℕ) (i : ℕ) where
@@ -171,12 +147,8 @@ module _ (c : Counts) (s : List ℕ) (line₀ at₀ : ℕ) where
     rooms = omega arith;
     below = omega arith;
     lines = omega arith;
-    rest = by (flows_at c.consoles s (c.consoles * c.consoles) 0 line₀ at₀);
+    rest = on_itself (flows_at c.consoles s (c.consoles * c.consoles) 0 line₀ at₀);
   }
-    where
-      by : (R : Result (List ℕ) SheetFault) → R ≡ on R (λ ps. Ok ([] ++ ps))
-      by (Ok ps) = refl
-      by (Err f) = refl
 
   module _ (a : Board) (low line at : ℕ) (l : Listing c s line₀ at₀ a low line at) where
     pub listing_more : (b : Board) (y : ℕ × ℕ) → at < length s → Ok y ≡ on_line line 5 (flow_due c.consoles low s at) → low ≤ y.0 → y.0 < c.consoles * c.consoles → Lists c b (l.so_far ++ (y.0 ∷ [])) → Listing c s line₀ at₀ b (y.0 + 1) (line + 1) y.1

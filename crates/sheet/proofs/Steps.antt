@@ -2,7 +2,7 @@
 use Rattle.std.proofs.Common.{◌≡◌, ℕ, suc, ◌+◌, List, ◌∷◌, length, Some, Ok, Err, Result, sym, ap, ◌∙◌, subst, arith}
 use Rattle.mark.specs.declared.cause.Cause.{Cause}
 use Rattle.sheet.specs.Faults.{on, on_line}
-use Rattle.sheet.specs.Reading.{with_value, value_at, rows_at}
+use Rattle.sheet.specs.Reading.{Entries, Value, with_value, value_at, rows_at}
 use Rattle.sheet.specs.Due.{Within, Stands, StandsLeft, row_of, number_of, rows_left, next_due}
 use Rattle.sheet.specs.Entries.{counted, value_of, Kinded}
 use Rattle.sheet.specs.Passes.{Ready, Stepped, Faulted, left_at, line_behind}
@@ -21,13 +21,17 @@ module _ {D : Type 0} (reads : List ℕ → Result D Cause) (h : Heading) (p : P
   rows_from : rows_left h.counts p.due ≡ row_of h.counts d ∷ rows_left h.counts (next_due h.counts d)
   rows_from = ap (rows_left h.counts) was ∙ rows_step h.counts d stands
 
-  left_from : left_at reads h p ≡ on (on_line p.line (number_of d) (value_at reads (counted h) p.cursor.sheet.now (row_of h.counts d) p.cursor.at)) (λ y. on (rows_at reads (counted h) p.cursor.sheet.now (rows_left h.counts (next_due h.counts d)) (p.line + 1) y.1) (λ z. Ok (with_value y.0 z.0, z.1)))
+  -- what is left behind the row due
+  abbrev behind_it : Value D × ℕ → Result (Entries D × ℕ) SheetFault
+  behind_it y = on (rows_at reads (counted h) p.cursor.sheet.now (rows_left h.counts (next_due h.counts d)) (p.line + 1) y.1) (λ z. Ok (with_value y.0 z.0, z.1))
+
+  left_from : left_at reads h p ≡ on (on_line p.line (number_of d) (value_at reads (counted h) p.cursor.sheet.now (row_of h.counts d) p.cursor.at)) behind_it
   left_from =
       ap (λ rs. rows_at reads (counted h) p.cursor.sheet.now rs p.line p.cursor.at) rows_from
-      ∙ ap (λ b. on (on_line p.line b (value_at reads (counted h) p.cursor.sheet.now (row_of h.counts d) p.cursor.at)) (λ y. on (rows_at reads (counted h) p.cursor.sheet.now (rows_left h.counts (next_due h.counts d)) (p.line + 1) y.1) (λ z. Ok (with_value y.0 z.0, z.1)))) (sym (block_number h.counts d))
+      ∙ ap (λ b. on (on_line p.line b (value_at reads (counted h) p.cursor.sheet.now (row_of h.counts d) p.cursor.at)) behind_it) (sym (block_number h.counts d))
 
   pub faulted : (f : SheetFault) → Err f ≡ on_line p.line (number_of d) (value_at reads (counted h) p.cursor.sheet.now (row_of h.counts d) p.cursor.at) → Faulted reads h p f
-  faulted f e = left_from ∙ on_err _ (λ y. on (rows_at reads (counted h) p.cursor.sheet.now (rows_left h.counts (next_due h.counts d)) (p.line + 1) y.1) (λ z. Ok (with_value y.0 z.0, z.1))) f e
+  faulted f e = left_from ∙ on_err _ behind_it f e
 
   pub stepped : (w : Within h.counts) (q : Progress) (v : Entry D) → q.due ≡ next_due h.counts d → q.line ≡ p.line + 1 → q.cursor.sheet ≡ p.cursor.sheet → Kinded d v → Ok (value_of v, q.cursor.at) ≡ on_line p.line (number_of d) (value_at reads (counted h) p.cursor.sheet.now (row_of h.counts d) p.cursor.at) → Stepped reads h p q d v
   stepped w q v next lines sheet kind e =
@@ -45,5 +49,5 @@ module _ {D : Type 0} (reads : List ℕ → Result D Cause) (h : Heading) (p : P
           lines = omega (arith, ready.lines);
         };
         behind = same;
-        more = left_from ∙ on_ok _ (λ y. on (rows_at reads (counted h) p.cursor.sheet.now (rows_left h.counts (next_due h.counts d)) (p.line + 1) y.1) (λ z. Ok (with_value y.0 z.0, z.1))) (value_of v, q.cursor.at) e ∙ ap (λ rs. on (rows_at reads (counted h) p.cursor.sheet.now rs (p.line + 1) q.cursor.at) (λ z. Ok (with_value (value_of v) z.0, z.1))) (sym left) ∙ ap (λ l. on (rows_at reads (counted h) p.cursor.sheet.now (rows_left h.counts q.due) l q.cursor.at) (λ z. Ok (with_value (value_of v) z.0, z.1))) (sym lines) ∙ ap (λ b. on (rows_at reads (counted h) b.now (rows_left h.counts q.due) q.line q.cursor.at) (λ z. Ok (with_value (value_of v) z.0, z.1))) (sym sheet);
+        more = rw (next, lines, sheet) (left_from ∙ on_ok _ behind_it (value_of v, q.cursor.at) e);
       }

@@ -1,5 +1,5 @@
 -- The whole sheet: its first block, its rows and its flows make the answer.
-use Rattle.std.proofs.Common.{◌≡◌, ℕ, ◌+◌, ◌*◌, ◌≤◌, true, List, map, length, take, Ok, Err, Result, sym, refl, ap, ◌∙◌, subst, arith}
+use Rattle.std.proofs.Common.{◌≡◌, ℕ, ◌+◌, ◌*◌, ◌≤◌, true, List, map, length, take, Ok, Err, Result, sym, refl, ap, ◌∙◌, arith}
 use Rattle.std.proofs.lemmas.Bool.{le-ltb}
 use Rattle.mark.specs.declared.cause.Cause.{Cause}
 use Rattle.policy.specs.declared.board.Board.{Board}
@@ -44,18 +44,21 @@ module _ {D : Type 0} (kind : List ℕ) (reads : List ℕ → Result D Cause) (s
   first_fault f e = first_then ∙ ap (λ R. on R behind) (sym e)
 
   module _ (c : Counted) (i : ℕ) (first : Ok (c, i) ≡ first_at kind s 0) where
+    to_rows : sheet_read kind reads s ≡ behind (c, i)
+    to_rows = first_then ∙ ap (λ R. on R behind) (sym first)
+
     pub rows_fault : (f : SheetFault) → rows_at reads c s (plan_of c) 3 i ≡ Err f → sheet_read kind reads s ≡ Err f
-    rows_fault f e = first_then ∙ ap (λ R. on R behind) (sym first) ∙ ap (λ R. on {A = Entries D × ℕ} R (λ z. on (flows_behind c z.1) (λ ps. Ok (record { counted = c; entries = z.0; flows = ps })))) e
+    rows_fault f e = to_rows ∙ rw e refl
 
     module _ (e : Entries D) (j : ℕ) (rows : rows_at reads c s (plan_of c) 3 i ≡ Ok (e, j)) where
       to_flows : sheet_read kind reads s ≡ on (flows_behind c j) (λ ps. Ok (record { counted = c; entries = e; flows = ps }))
-      to_flows = first_then ∙ ap (λ R. on R behind) (sym first) ∙ ap (λ R. on {A = Entries D × ℕ} R (λ z. on (flows_behind c z.1) (λ ps. Ok (record { counted = c; entries = z.0; flows = ps })))) rows
+      to_flows = to_rows ∙ rw rows refl
 
       pub flows_fault : (f : SheetFault) → flows_behind c j ≡ Err f → sheet_read kind reads s ≡ Err f
-      flows_fault f p = to_flows ∙ ap (λ R. on R (λ ps. Ok (record { counted = c; entries = e; flows = ps }))) p
+      flows_fault f p = to_flows ∙ rw p refl
 
       pub all_read : (ps : List ℕ) → flows_behind c j ≡ Ok ps → sheet_read kind reads s ≡ Ok (record { counted = c; entries = e; flows = ps })
-      all_read ps p = to_flows ∙ ap (λ R. on R (λ qs. Ok (record { counted = c; entries = e; flows = qs }))) p
+      all_read ps p = to_flows ∙ rw p refl
 
   -- in stores that suffice
   module _ (a b d : ℕ) (short : length s ≤ most_bytes) (room : store_suffices a b d ≡ true) where
@@ -68,12 +71,12 @@ module _ {D : Type 0} (kind : List ℕ) (reads : List ℕ → Result D Cause) (s
 -- what the calls before say of the rows and the flows
 module _ {D : Type 0} (n : ℕ) where
   pub rows_passed : (W : Result (Entries D × ℕ) SheetFault) (m j : ℕ) → Ok (m, j) ≡ on {B = ℕ × ℕ} W (λ z. Ok (n, z.1)) → (e : Entries D) × (W ≡ Ok (e, j)) × (m ≡ n)
-  rows_passed (Ok z) m j e = let q : ◌≡◌ {A = ℕ × ℕ} (m, j) (n, z.1) = cc in (z.0, ap (λ (t : ℕ × ℕ). Ok (z.0, t.1)) (sym q), ap (λ (t : ℕ × ℕ). t.0) q)
-  rows_passed (Err f) m j e = let q : ◌≡◌ {A = ℕ} 0 1 = cc in absurd (omega arith)
+  rows_passed (Ok z) m j e = (z.0, grind arith, grind arith)
+  rows_passed (Err f) m j e = grind arith
 
   pub rows_stopped : (W : Result (Entries D × ℕ) SheetFault) (f : SheetFault) → Err f ≡ on {B = ℕ × ℕ} W (λ z. Ok (n, z.1)) → W ≡ Err f
-  rows_stopped (Ok z) f e = let q : ◌≡◌ {A = ℕ} 0 1 = cc in absurd (omega arith)
-  rows_stopped (Err g) f e = let q : g ≡ f = cc in ap Err q
+  rows_stopped (Ok z) f e = grind arith
+  rows_stopped (Err g) f e = cc
 
 module _ (c : Counts) where
   pub board_from : (b : Board) (F : Result (List ℕ) SheetFault) → BoardAs c (Ok b) F → (ps : List ℕ) × (F ≡ Ok ps) × Lists c b ps
@@ -87,17 +90,17 @@ module _ (c : Counts) where
 -- the call's answer, and what becomes of a store
 module _ {D : Type 0} (X : Result (Sheet D) Refusal) where
   pub found_err : (r : Result Found Refusal) (e : Refusal) → r ≡ Err e → X ≡ Err e → FoundAs r X
-  found_err r e p q = subst (λ (t : Result Found Refusal). FoundAs t X) (sym p) (subst (λ (Y : Result (Sheet D) Refusal). FoundAs (Err e) Y) (sym q) refl)
+  found_err r e p q = rw p (rw q refl)
 
   pub found_ok : (f : Found) (x : Sheet D) → X ≡ Ok x → Agrees f x → FoundAs (Ok f) X
-  found_ok f x q h = subst (λ (Y : Result (Sheet D) Refusal). FoundAs (Ok f) Y) (sym q) h
+  found_ok f x q h = rw q h
 
   module _ {A : Type 0} (entries : Sheet D → List A) (store : List A) where
     pub store_kept : (e : Refusal) → X ≡ Err e → store ≡ store_after entries X store
-    store_kept e q = ap (λ Y. store_after entries Y store) (sym q)
+    store_kept e q = rw q refl
 
     pub store_filled : (x : Sheet D) (after : List A) → X ≡ Ok x → after ≡ overwritten (entries x) store → after ≡ store_after entries X store
-    store_filled x after q h = h ∙ ap (λ Y. store_after entries Y store) (sym q)
+    store_filled x after q h = rw q h
 
 -- where the answer is the refusal that the call returns, the stores stay
 pub kept : {D C : Type 0} (cell : D → C) (X : Result (Sheet D) Refusal) (r : Result Found Refusal) (e : Refusal) (steps owners : List ℕ) (displays : List C) → r ≡ Err e → X ≡ Err e
@@ -106,4 +109,4 @@ kept cell X r e steps owners displays p q = (found_err X r e p q, store_kept X (
 
 -- a store to whose front the rows were copied that were read
 pub copied : {D A : Type 0} (entries : Entries D → List A) (W : Result (Entries D × ℕ) SheetFault) (many : ℕ) (read before after : List A) (e : Entries D) (j : ℕ) → W ≡ Ok (e, j) → FrontBy entries W many read → after ≡ overwritten (take many read) before → after ≡ overwritten (entries e) before
-copied {D} entries W many read before after e j q h p = p ∙ ap (λ l. overwritten l before) (subst (λ (V : Result (Entries D × ℕ) SheetFault). FrontBy entries V many read) q h)
+copied entries W many read before after e j q h p = p ∙ ap (λ l. overwritten l before) (rw q at h)
