@@ -17,9 +17,6 @@ sets_past : (out : List ℕ) (i : ℕ) (xs : List ℕ) → length out ≤ i → 
 sets_past out i [] h = refl
 sets_past out i (x ∷ xs) h = ap (λ o. sets o (suc i) xs) (set_past out i x h) ∙ sets_past out (suc i) xs (omega arith)
 
-pub wrote_none : (out : List ℕ) (at : ℕ) → length out ≤ last_place → at ≤ last_place → Wrote out at [] out at
-wrote_none out at h k = record { room = h; place = omega arith; output = refl }
-
 pub wrote_more : {was half is : List ℕ} {at i behind : ℕ} (xs ys : List ℕ) → Wrote was at xs half i → Wrote half i ys is behind → Wrote was at (xs ++ ys) is behind
 wrote_more {was} {half} {is} {at} {i} {behind} xs ys first second = record {
   room = first.room;
