@@ -34,7 +34,7 @@ fn first_block<D: DisplayKind>(cursor: &mut Cursor) -> Result<Heading, SheetFaul
 }
 
 // Writes what a row says where it belongs.
-// No struct of the three tables: that it fits in memory does not follow from a lent slice of cells.
+// No struct that owns the three tables: that 1,200 cells beside 2,424 bytes fit in memory stayed open.
 fn keep<D: DisplayKind>(
     due: Due,
     entry: Entry<D>,
