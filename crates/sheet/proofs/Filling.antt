@@ -1,5 +1,5 @@
 -- The stores are filled from their front, entry by entry, as the rows say.
-use Rattle.std.proofs.Common.{◌≡◌, ℕ, ◌+◌, ◌*◌, ◌<◌, true, cond, ltb, leb, List, [], ◌∷◌, ◌++◌, map, length, get_or, drop, set, Some, Ok, Err, Option, Result, sym, refl, ap, ◌∙◌, arith}
+use Rattle.std.proofs.Common.{◌≡◌, ℕ, ◌+◌, ◌*◌, ◌<◌, true, cond, ltb, leb, List, [], ◌∷◌, ◌++◌, map, length, get_or, drop, set, Some, Option, Result, sym, refl, ap, ◌∙◌, arith}
 use Rattle.std.proofs.lemmas.Nat.{mul-le}
 use Rattle.std.proofs.lemmas.List.{append_assoc, append-nil, drop_more, length-append, length-map, length_push, map-append, set_at}
 use Rattle.std.proofs.lemmas.Bool.{and_parts, cond_both, leb-true, ltb-false}
@@ -7,12 +7,11 @@ use Rattle.mark.specs.declared.cause.Cause.{Cause}
 use Rattle.control.specs.Tables.{store_suffices}
 use Rattle.control.specs.declared.table.Counts.{Counts}
 use Rattle.sheet.specs.Calls.{overwritten}
-use Rattle.sheet.specs.Faults.{on}
-use Rattle.sheet.specs.Reading.{Entries, Value, nothing, owned, stepped, showed, with_value, no_entries, plan_of}
+use Rattle.sheet.specs.Reading.{Entries, with_value, no_entries}
 use Rattle.sheet.specs.Due.{Within, Stands, next_due}
-use Rattle.sheet.specs.Entries.{counted, value_of, Kinded}
-use Rattle.sheet.specs.Passes.{Ready, Stepped, left_at, line_behind, started}
-use Rattle.sheet.specs.Stores.{Holds, steps_with, owners_with, displays_with, steps_done, owners_done, displays_done, joined}
+use Rattle.sheet.specs.Entries.{value_of, Kinded}
+use Rattle.sheet.specs.Passes.{Ready, Stepped, left_at, started}
+use Rattle.sheet.specs.Stores.{Holds, steps_with, owners_with, displays_with, steps_done, owners_done, displays_done}
 use Rattle.sheet.specs.declared.due.Block.{Block}
 use Rattle.sheet.specs.declared.due.Block.TheVariants as block
 use Rattle.sheet.specs.declared.due.Due.{Due}
@@ -23,8 +22,7 @@ use Rattle.sheet.specs.declared.progress.Progress.{Progress}
 use Rattle.sheet.specs.declared.heading.Heading.{Heading}
 use Rattle.sheet.specs.declared.rows.Entry.{Entry}
 use Rattle.sheet.specs.declared.rows.Entry.TheVariants.{Nothing, Owner, Step, Shown}
-use Rattle.sheet.proofs.Going.{on_itself}
-use Rattle.sheet.proofs.Passed.{pass_lines}
+use Rattle.sheet.proofs.Passed.{Passing, passing_start, passing_more}
 
 -- one entry more in front
 overwritten_more : {A : Type 0} (front store : List A) (n : ℕ) (w : A) → length front ≡ n → n < length store → set (overwritten front store) n w ≡ overwritten (front ++ (w ∷ [])) store
@@ -121,65 +119,46 @@ module _ {D : Type 0} (c : Counts) (a b : ℕ) where
   displays_kept cell front store _ _ h e (stepped_to n t) = ap (λ f. overwritten (map cell f) store) (sym (append-nil front))
   displays_kept cell front store _ _ h e (shown_as n x) = overwritten_more (map cell front) store n (cell x) (length-map front cell ∙ e) h ∙ ap (λ f. overwritten f store) (sym (map-append cell front (x ∷ [])))
 
-module _ {D : Type 0} where
-  joined_more : (d e : Entries D) (v : Value D) → joined d (with_value v e) ≡ joined (joined d (with_value v no_entries)) e
-  joined_more d e nothing = simp append_assoc
-  joined_more d e (owned w) = simp append_assoc
-  joined_more d e (stepped t) = simp append_assoc
-  joined_more d e (showed x) = simp append_assoc
-
-  -- an entry in front of what is left goes behind what was read
-  moved : (d : Entries D) (v : Value D) (R : Result (Entries D × ℕ) SheetFault) → on {A = Entries D × ℕ} {B = Entries D × ℕ} (on {B = Entries D × ℕ} R (λ z. Ok (with_value v z.0, z.1))) (λ z. Ok (joined d z.0, z.1)) ≡ on {B = Entries D × ℕ} R (λ z. Ok (joined (joined d (with_value v no_entries)) z.0, z.1))
-  moved d v (Ok z) = ap (λ (e : Entries D). Ok (e, z.1)) (joined_more d z.0 v)
-  moved d v (Err f) = refl
-
 -- How far the stores are filled: they held `steps₀`, `owners₀` and `displays₀`, W is what all
--- rows say, and `so_far` is what was read of it.
+-- rows say, and what was read of it stands in their front.
 module _ {D C : Type 0} (reads : List ℕ → Result D Cause) (h : Heading) (cell : D → C) (W : Result (Entries D × ℕ) SheetFault) (steps₀ owners₀ : List ℕ) (displays₀ : List C) where
   pub record Filling (p : Progress) (steps owners : List ℕ) (displays : List C) : Type 0 where
-    pub so_far : Entries D
-    pub ready : Ready h.counts p
-    pub lines : line_behind h.counts p ≡ 3 + length (plan_of (counted h))
-    pub steps_many : length so_far.steps ≡ steps_done h.counts p.due
-    pub owners_many : length so_far.owners ≡ owners_done h.counts p.due
-    pub displays_many : length so_far.displays ≡ displays_done h.counts p.due
-    pub steps_hold : steps ≡ overwritten so_far.steps steps₀
-    pub owners_hold : owners ≡ overwritten so_far.owners owners₀
-    pub displays_hold : displays ≡ overwritten (map cell so_far.displays) displays₀
-    pub rest : W ≡ on (left_at reads h p) (λ z. Ok (joined so_far z.0, z.1))
+    pub passing : Passing reads h W p
+    pub steps_many : length passing.so_far.steps ≡ steps_done h.counts p.due
+    pub owners_many : length passing.so_far.owners ≡ owners_done h.counts p.due
+    pub displays_many : length passing.so_far.displays ≡ displays_done h.counts p.due
+    pub steps_hold : steps ≡ overwritten passing.so_far.steps steps₀
+    pub owners_hold : owners ≡ overwritten passing.so_far.owners owners₀
+    pub displays_hold : displays ≡ overwritten (map cell passing.so_far.displays) displays₀
 
   pub filling_start : (a : Cursor) → Ready h.counts (started a) → W ≡ left_at reads h (started a) → Filling (started a) steps₀ owners₀ displays₀
+  unfolding passing_start
   filling_start a ready whole = record {
-    so_far = no_entries;
-    ready = ready;
-    lines = pass_lines reads h a;
+    passing = passing_start reads h W a ready whole;
     steps_many = refl;
     owners_many = refl;
     displays_many = refl;
     steps_hold = refl;
     owners_hold = refl;
     displays_hold = refl;
-    rest = whole ∙ on_itself (left_at reads h (started a));
   }
 
   module _ (p : Progress) (steps owners : List ℕ) (displays : List C) (l : Filling p steps owners displays) where
     pub filling_more : (q : Progress) (d : Due) (v : Entry D) (steps' owners' : List ℕ) (displays' : List C) → Stepped reads h p q d v → Holds (length steps₀) (length owners₀) (length displays₀) d → Stands h.counts d → steps' ≡ steps_with d v steps → owners' ≡ owners_with d v owners → displays' ≡ displays_with cell d v displays → Filling q steps' owners' displays'
+    unfolding passing_more
     filling_more q d v steps' owners' displays' t room stands es eo ed =
         let k = paired d v t.kind in
         let ns = l.steps_many ∙ ap (steps_done h.counts) t.was in
         let no = l.owners_many ∙ ap (owners_done h.counts) t.was in
         let nd = l.displays_many ∙ ap (displays_done h.counts) t.was in
         record {
-          so_far = joined l.so_far (alone v);
-          ready = t.ready;
-          lines = t.behind ∙ l.lines;
-          steps_many = length-append l.so_far.steps (alone v).steps ∙ ap (λ n. n + length (alone v).steps) ns ∙ sym (steps_next h.counts d v stands k) ∙ ap (steps_done h.counts) (sym t.next);
-          owners_many = length-append l.so_far.owners (alone v).owners ∙ ap (λ n. n + length (alone v).owners) no ∙ sym (owners_next h.counts d v stands k) ∙ ap (owners_done h.counts) (sym t.next);
-          displays_many = length-append l.so_far.displays (alone v).displays ∙ ap (λ n. n + length (alone v).displays) nd ∙ sym (displays_next h.counts d v stands k) ∙ ap (displays_done h.counts) (sym t.next);
-          steps_hold = es ∙ ap (steps_with d v) l.steps_hold ∙ steps_kept h.counts (length owners₀) (length displays₀) l.so_far.steps steps₀ d v room ns k;
-          owners_hold = eo ∙ ap (owners_with d v) l.owners_hold ∙ owners_kept h.counts (length steps₀) (length displays₀) l.so_far.owners owners₀ d v room no k;
-          displays_hold = ed ∙ ap (displays_with cell d v) l.displays_hold ∙ displays_kept h.counts (length steps₀) (length owners₀) cell l.so_far.displays displays₀ d v room nd k;
-          rest = l.rest ∙ ap (λ R. on {A = Entries D × ℕ} {B = Entries D × ℕ} R (λ z. Ok (joined l.so_far z.0, z.1))) t.more ∙ moved l.so_far (value_of v) (left_at reads h q);
+          passing = passing_more reads h W p q d v l.passing t;
+          steps_many = length-append l.passing.so_far.steps (alone v).steps ∙ ap (λ n. n + length (alone v).steps) ns ∙ sym (steps_next h.counts d v stands k) ∙ ap (steps_done h.counts) (sym t.next);
+          owners_many = length-append l.passing.so_far.owners (alone v).owners ∙ ap (λ n. n + length (alone v).owners) no ∙ sym (owners_next h.counts d v stands k) ∙ ap (owners_done h.counts) (sym t.next);
+          displays_many = length-append l.passing.so_far.displays (alone v).displays ∙ ap (λ n. n + length (alone v).displays) nd ∙ sym (displays_next h.counts d v stands k) ∙ ap (displays_done h.counts) (sym t.next);
+          steps_hold = es ∙ ap (steps_with d v) l.steps_hold ∙ steps_kept h.counts (length owners₀) (length displays₀) l.passing.so_far.steps steps₀ d v room ns k;
+          owners_hold = eo ∙ ap (owners_with d v) l.owners_hold ∙ owners_kept h.counts (length steps₀) (length displays₀) l.passing.so_far.owners owners₀ d v room no k;
+          displays_hold = ed ∙ ap (displays_with cell d v) l.displays_hold ∙ displays_kept h.counts (length steps₀) (length owners₀) cell l.passing.so_far.displays displays₀ d v room nd k;
         }
 
 -- stores that suffice have a place for every row

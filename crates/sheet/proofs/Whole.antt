@@ -1,5 +1,5 @@
 -- The whole sheet: its first block, its rows and its flows make the answer.
-use Rattle.std.proofs.Common.{◌≡◌, ℕ, ◌+◌, ◌*◌, ◌≤◌, true, List, map, length, take, Ok, Err, Result, sym, refl, ap, ◌∙◌, arith}
+use Rattle.std.proofs.Common.{◌≡◌, ℕ, ◌+◌, ◌*◌, ◌≤◌, true, List, map, length, Ok, Err, Result, sym, refl, ap, ◌∙◌, arith}
 use Rattle.std.proofs.lemmas.Bool.{le-ltb}
 use Rattle.mark.specs.declared.cause.Cause.{Cause}
 use Rattle.policy.specs.declared.board.Board.{Board}
@@ -14,7 +14,7 @@ use Rattle.sheet.specs.Reading.{Counted, Entries, Sheet, Value, nothing, names_a
 use Rattle.sheet.specs.Due.{Within, highest_line, names_in}
 use Rattle.sheet.specs.Entries.{counted, first_at}
 use Rattle.sheet.specs.Boards.{Lists, BoardAs}
-use Rattle.sheet.specs.Stores.{FrontBy}
+use Rattle.sheet.specs.Stores.{FilledBy}
 use Rattle.sheet.specs.declared.fault.MarkFault.{MarkFault}
 use Rattle.sheet.specs.declared.fault.SheetFault.{SheetFault}
 use Rattle.sheet.specs.declared.found.Found.{Found}
@@ -107,6 +107,6 @@ pub kept : {D C : Type 0} (cell : D → C) (X : Result (Sheet D) Refusal) (r : R
     → FoundAs r X × (steps ≡ store_after (λ x. x.entries.steps) X steps) × (owners ≡ store_after (λ x. x.entries.owners) X owners) × (displays ≡ store_after (λ x. map cell x.entries.displays) X displays)
 kept cell X r e steps owners displays p q = (found_err X r e p q, store_kept X (λ x. x.entries.steps) steps e q, store_kept X (λ x. x.entries.owners) owners e q, store_kept X (λ x. map cell x.entries.displays) displays e q)
 
--- a store to whose front the rows were copied that were read
-pub copied : {D A : Type 0} (entries : Entries D → List A) (W : Result (Entries D × ℕ) SheetFault) (many : ℕ) (read before after : List A) (e : Entries D) (j : ℕ) → W ≡ Ok (e, j) → FrontBy entries W many read → after ≡ overwritten (take many read) before → after ≡ overwritten (entries e) before
-copied entries W many read before after e j q h p = p ∙ ap (λ l. overwritten l before) (rw q at h)
+-- the store of a pass over rows that were read
+pub filled_ok : {D A : Type 0} (entries : Entries D → List A) (W : Result (Entries D × ℕ) SheetFault) (before after : List A) (e : Entries D) (j : ℕ) → W ≡ Ok (e, j) → FilledBy entries W before after → after ≡ overwritten (entries e) before
+filled_ok entries W before after e j q h = rw q at h

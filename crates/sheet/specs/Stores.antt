@@ -1,6 +1,7 @@
 -- The stores while they are filled: where a row's entry belongs, and what was written so far.
-use Rattle.std.specs.Prelude.{◌≡◌, ℕ, ◌*◌, ◌<◌, List, ◌++◌, take, Some, None, Ok, Err, Option, Result, slice_set}
+use Rattle.std.specs.Prelude.{◌≡◌, ℕ, ◌*◌, ◌<◌, List, ◌++◌, Some, None, Ok, Err, Option, Result, slice_set}
 use Rattle.control.specs.declared.table.Counts.{Counts}
+use Rattle.sheet.specs.Calls.{overwritten}
 use Rattle.sheet.specs.Reading.{Entries}
 use Rattle.sheet.specs.declared.due.Block.TheVariants as block
 use Rattle.sheet.specs.declared.due.Due.{Due}
@@ -88,7 +89,7 @@ displays_done c (Some (due.Shown n)) = n
 abbrev pub joined : {D : Type 0} → Entries D → Entries D → Entries D
 joined d e = record { owners = d.owners ++ e.owners; steps = d.steps ++ e.steps; displays = d.displays ++ e.displays }
 
--- after the rows were read, if they were, the first entries of a store are what they say
-abbrev pub FrontBy : {D A : Type 0} → (Entries D → List A) → Result (Entries D × ℕ) SheetFault → ℕ → List A → Type 0
-FrontBy entries (Ok z) many store = take many store ≡ entries z.0
-FrontBy entries (Err f) many store = Unit {0}
+-- what a store holds after the rows were read, if they were
+abbrev pub FilledBy : {D A : Type 0} → (Entries D → List A) → Result (Entries D × ℕ) SheetFault → List A → List A → Type 0
+FilledBy entries (Ok z) before after = after ≡ overwritten (entries z.0) before
+FilledBy entries (Err f) before after = Unit {0}

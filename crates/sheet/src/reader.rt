@@ -1,12 +1,11 @@
-// Reading a sheet: its rows into tables of the reader's own, which are copied to the store once the
-// whole sheet is known to be good.
-ghost use Rattle.std.specs.Prelude.{◌≡◌, ◌+◌, ◌*◌, ◌≤◌, true, map, length, take, Ok};
+// Reading a sheet: once over the whole of it, and then over its rows again to fill the tables.
+ghost use Rattle.std.specs.Prelude.{◌≡◌, ◌+◌, true, map, length, Ok};
 ghost use Rattle.control.specs.Tables.{store_suffices};
-ghost use Rattle.sheet.specs.Calls.{FoundAs, overwritten, read_into, store_after};
+ghost use Rattle.sheet.specs.Calls.{FoundAs, read_into, store_after};
 ghost use Rattle.sheet.specs.Faults.{on, behind};
 ghost use Rattle.sheet.specs.Reading.{plan_of};
 ghost use Rattle.sheet.specs.Entries.{counted, headed, first_at, rows_behind};
-ghost use Rattle.sheet.specs.Stores.{Holds, steps_with, owners_with, displays_with, FrontBy};
+ghost use Rattle.sheet.specs.Stores.{Holds, steps_with, owners_with, displays_with, FilledBy};
 
 use crate::due::Due;
 use crate::fault::SheetFault;
@@ -33,8 +32,18 @@ fn first_block<D: DisplayKind>(cursor: &mut Cursor) -> Result<Heading, SheetFaul
     rows::counts_row::<D>(cursor).map_err(|fault| fault.on_line(COUNTS_LINE).in_block(COUNTS_BLOCK))
 }
 
+// Reads the rows before the flows and keeps nothing of them; the line behind them.
+fn pass_rows<D: DisplayKind>(cursor: &mut Cursor, heading: &Heading) -> Result<usize, SheetFault>
+    ensures read { behind result cursor.new.at ≡ on (rows_behind D.DisplayKind.reads heading.now cursor.old) (λ z. Ok (3 + length (plan_of (counted heading.now)), z.1)) }
+    ensures sheet { cursor.new.sheet ≡ cursor.old.sheet }
+{
+    let mut progress = Progress::start(*cursor);
+    while let Some(_) = progress.next::<D>(heading)? {}
+    cursor.at = progress.cursor.at;
+    Ok(progress.line)
+}
+
 // Writes what a row says where it belongs.
-// No struct that owns the three tables: that 1,200 cells beside 2,424 bytes fit in memory stayed open.
 fn keep<D: DisplayKind>(
     due: Due,
     entry: Entry<D>,
@@ -56,38 +65,30 @@ fn keep<D: DisplayKind>(
     }
 }
 
-// Reads the rows before the flows and keeps what they say; the line behind them.
+// Reads the rows behind a cursor again, and keeps what they say.
 fn fill<D: DisplayKind>(
-    cursor: &mut Cursor,
+    cursor: Cursor,
     heading: &Heading,
     steps: &mut [u8],
     owners: &mut [u8],
     displays: &mut [D::Cell],
-) -> Result<usize, SheetFault>
+) -> Result<(), SheetFault>
     requires { store_suffices (length steps.old) (length owners.old) (length displays.old) ≡ true }
-    ensures read { behind result cursor.new.at ≡ on (rows_behind D.DisplayKind.reads heading.now cursor.old) (λ z. Ok (3 + length (plan_of (counted heading.now)), z.1)) }
-    ensures sheet { cursor.new.sheet ≡ cursor.old.sheet }
-    ensures steps { FrontBy (λ e. e.steps) (rows_behind D.DisplayKind.reads heading.now cursor.old) (heading.now.counts.states * heading.now.counts.commands) steps.new }
-    ensures owners { FrontBy (λ e. e.owners) (rows_behind D.DisplayKind.reads heading.now cursor.old) heading.now.counts.commands owners.new }
-    ensures displays { FrontBy (λ e. map D.cell e.displays) (rows_behind D.DisplayKind.reads heading.now cursor.old) (heading.now.counts.states * heading.now.counts.consoles) displays.new }
+    ensures read { result ≡ on (rows_behind D.DisplayKind.reads heading.now cursor.entry) (λ _. Ok tt) }
+    ensures steps { FilledBy (λ e. e.steps) (rows_behind D.DisplayKind.reads heading.now cursor.entry) steps.old steps.new }
+    ensures owners { FilledBy (λ e. e.owners) (rows_behind D.DisplayKind.reads heading.now cursor.entry) owners.old owners.new }
+    ensures displays { FilledBy (λ e. map D.cell e.displays) (rows_behind D.DisplayKind.reads heading.now cursor.entry) displays.old displays.new }
 {
-    let mut progress = Progress::start(*cursor);
+    let mut progress = Progress::start(cursor);
     while let Some((due, entry)) = progress.next::<D>(heading)? {
         keep(due, entry, steps, owners, displays);
     }
-    cursor.at = progress.cursor.at;
-    Ok(progress.line)
+    Ok(())
 }
 
-// Copies the first entries to the front of a store.
-fn copy_front<T: Copy>(entries: &[T], many: usize, store: &mut [T])
-    requires { (many ≤ length entries.now) × (many ≤ length store.old) }
-    ensures { store.new ≡ overwritten (take many entries.now) store.old }
-{
-    store[..many].copy_from_slice(&entries[..many]);
-}
-
-// What the sheet says: its counts, its start and its flows, and the tables in the store.
+// What the sheet says: its counts, its start and its flows, and the tables in the store. The rows are
+// read twice and kept nowhere between: a kind's cells may be of any size, so no table of them lies on
+// the stack, and no store is written before the whole sheet is known to be good.
 pub fn read<D: DisplayKind>(
     sheet: &[u8],
     steps: &mut [u8],
@@ -107,23 +108,12 @@ pub fn read<D: DisplayKind>(
     }
     let mut cursor = Cursor { sheet, at: 0 };
     let heading = first_block::<D>(&mut cursor)?;
-    let counts = heading.counts;
-    let mut read_steps = [0; STEPS];
-    let mut read_owners = [0; OWNERS];
-    let mut read_displays = [D::zero().to_cell(); DISPLAYS];
-    let line = fill::<D>(
-        &mut cursor,
-        &heading,
-        &mut read_steps,
-        &mut read_owners,
-        &mut read_displays,
-    )?;
+    let before_rows = cursor;
+    let line = pass_rows::<D>(&mut cursor, &heading)?;
     let board = all_flows(&mut cursor, line, &heading)?;
-    copy_front(&read_steps, counts.states * counts.commands, steps);
-    copy_front(&read_owners, counts.commands, owners);
-    copy_front(&read_displays, counts.states * counts.consoles, displays);
+    fill::<D>(before_rows, &heading, steps, owners, displays)?;
     Ok(Found {
-        counts,
+        counts: heading.counts,
         start: heading.start,
         board,
     })

@@ -6,10 +6,10 @@ use Rattle.sheet.specs.Calls.{read_answer, refusal_of}
 use Rattle.sheet.specs.Faults.{on}
 use Rattle.sheet.specs.Reading.{Sheet, plan_of, rows_at, flows_at}
 use Rattle.sheet.specs.Due.{highest_line}
-use Rattle.sheet.specs.Entries.{counted}
+use Rattle.sheet.specs.Entries.{counted, rows_behind}
 use Rattle.sheet.specs.Boards.{BoardAs}
 use Rattle.sheet.proofs.Going.{left_as}
-use Rattle.sheet.proofs.Whole.{line_bound, first_fault, rows_fault, flows_fault, all_read, answer_ok, answer_err, rows_passed, rows_stopped, board_from, refusal_from, found_ok, kept, store_filled, copied}
+use Rattle.sheet.proofs.Whole.{line_bound, first_fault, rows_fault, flows_fault, all_read, answer_ok, answer_err, rows_passed, rows_stopped, board_from, refusal_from, found_ok, kept, store_filled, filled_ok}
 use Rattle.sheet.proofs.reader.read.Goals as goal
 
 -- stores of these lengths suffice
@@ -55,7 +55,7 @@ pub all_flows-requires : goal.all_flows-requires
 all_flows-requires g c =
     let h = c.in_ok-heading.heading in
     let before = c.first_block.new.cursor in
-    let passed = rows_passed (3 + length (plan_of (counted h))) (rows_at g.D.DisplayKind.reads (counted h) before.sheet.now (plan_of (counted h)) 3 before.at) c.in_ok-line.line c.fill.new.cursor.at c.in_ok-line.ensures.read in
+    let passed = rows_passed (3 + length (plan_of (counted h))) (rows_at g.D.DisplayKind.reads (counted h) before.sheet.now (plan_of (counted h)) 3 before.at) c.in_ok-line.line c.pass_rows.new.cursor.at c.in_ok-line.ensures.read in
     subst (λ n. n ≤ highest_line) (sym passed.2) (line_bound h h.within)
 
 pub returns-in_err-board : goal.returns-in_err-board
@@ -69,7 +69,7 @@ returns-in_err-board g c =
     let h = c.in_ok-heading.heading in
     let i = c.first_block.new.cursor.at in
     let k = h.counts.consoles in
-    let j = c.fill.new.cursor.at in
+    let j = c.pass_rows.new.cursor.at in
     let n = 3 + length (plan_of (counted h)) in
     let e = c.in_err-board.field-0.0 in
     let room = suffices (length steps) (length owners) (length displays) (omega arith) (omega arith) (omega arith) in
@@ -81,6 +81,15 @@ returns-in_err-board g c =
     (left_as c.from_residual-in_err-board.result e c.from_residual-in_err-board.ensures.1 ∙ ap Err refused.2)
     (answer_err kind reads s (length steps) (length owners) (length displays) (omega arith) room refused.0 (flows_fault kind reads s (counted h) i c.in_ok-heading.ensures.read passed.0 j passed.1 refused.0 (ap (λ m. flows_at k s (k * k) 0 m j) (sym passed.2) ∙ refused.1))) in
     record { found = all.0; steps = all.1; owners = all.2; displays = all.3 }
+
+-- the rows that were read once are read again
+pub returns-in_err-fill : goal.returns-in_err-fill
+returns-in_err-fill g c =
+    let h = c.in_ok-heading.heading in
+    let V = rows_behind g.D.DisplayKind.reads h c.first_block.new.cursor in
+    let passed = rows_passed (3 + length (plan_of (counted h))) V c.in_ok-line.line c.pass_rows.new.cursor.at c.in_ok-line.ensures.read in
+    let never : Err c.in_err-fill.field-0.0 ≡ Ok tt = c.in_err-fill.ensures.read ∙ ap (λ R. on R (λ z. Ok tt)) passed.1 in
+    grind arith
 
 pub returns : goal.returns
 returns g c =
@@ -95,7 +104,7 @@ returns g c =
     let before = c.first_block.new.cursor in
     let i = before.at in
     let k = h.counts.consoles in
-    let j = c.fill.new.cursor.at in
+    let j = c.pass_rows.new.cursor.at in
     let n = 3 + length (plan_of (counted h)) in
     let b = c.in_ok-board.board in
     let V = rows_at reads (counted h) before.sheet.now (plan_of (counted h)) 3 i in
@@ -118,7 +127,7 @@ returns g c =
         flows = listed.2.flows;
         lockouts = listed.2.lockouts;
       });
-      steps = store_filled X (λ y. y.entries.steps) steps x c.copy_front.new.store answer (copied (λ e. e.steps) V _ c.fill.new.steps steps c.copy_front.new.store passed.0 j passed.1 c.in_ok-line.ensures.steps c.copy_front.ensures);
-      owners = store_filled X (λ y. y.entries.owners) owners x c.copy_front-2.new.store answer (copied (λ e. e.owners) V _ c.fill.new.owners owners c.copy_front-2.new.store passed.0 j passed.1 c.in_ok-line.ensures.owners c.copy_front-2.ensures);
-      displays = store_filled X (λ y. map cell y.entries.displays) displays x c.copy_front-3.new.store answer (copied (λ e. map cell e.displays) V _ c.fill.new.displays displays c.copy_front-3.new.store passed.0 j passed.1 c.in_ok-line.ensures.displays c.copy_front-3.ensures);
+      steps = store_filled X (λ y. y.entries.steps) steps x c.fill.new.steps answer (filled_ok (λ e. e.steps) V steps c.fill.new.steps passed.0 j passed.1 c.fill.ensures.steps);
+      owners = store_filled X (λ y. y.entries.owners) owners x c.fill.new.owners answer (filled_ok (λ e. e.owners) V owners c.fill.new.owners passed.0 j passed.1 c.fill.ensures.owners);
+      displays = store_filled X (λ y. map cell y.entries.displays) displays x c.fill.new.displays answer (filled_ok (λ e. map cell e.displays) V displays c.fill.new.displays passed.0 j passed.1 c.fill.ensures.displays);
     }
