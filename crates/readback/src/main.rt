@@ -13,7 +13,7 @@ use report::readback::readback;
 use report::refusals::refusal_values;
 use std::alloc::{AllocError, Global};
 use std::env;
-use std::io::Read;
+use std::io::{Read, Write};
 use theory::limits::MOST_SHEET_BYTES;
 
 const HELP: &str = "readback < SHEET
@@ -52,7 +52,8 @@ fn run(rt: &HostRuntime) -> anyhow::Result<()> {
     let mut sheet = Vec::new(rt.alloc());
     rt.stdin().take(MOST).read_to_end(&mut sheet)?;
     match ask(sheet.as_slice(), &Readback { heap: rt.alloc() }) {
-        Ok(Ok(text)) => rt.print(text)?,
+        // one write: a reader that closes the pipe behind the first lines stops nothing
+        Ok(Ok(text)) => rt.stdout().write_all(text.as_bytes())?,
         Ok(Err(_)) => return Err(anyhow!("there is no memory for the answer")),
         Err(refusal) => rt.print(refusal_values(rt.alloc(), refusal)?)?,
     }

@@ -127,7 +127,8 @@ fn take_word(rt: &HostRuntime, asked: &mut Asked, next: Next, word: &str) -> any
     }
 }
 
-fn read_words(rt: &HostRuntime) -> anyhow::Result<Asked> {
+// What the words ask for, or nothing where one of them asks for help.
+fn read_words(rt: &HostRuntime) -> anyhow::Result<Option<Asked>> {
     let heap = rt.alloc();
     let mut asked = Asked {
         heap,
@@ -139,10 +140,12 @@ fn read_words(rt: &HostRuntime) -> anyhow::Result<Asked> {
         sheet: BUILT_IN.to_vec(heap)?,
     };
     let mut next = Next::First;
+    let mut help = false;
     for word in env::args(rt)?.skip(1) {
+        help = help || word.as_str() == "--help";
         next = take_word(rt, &mut asked, next, word.as_str())?;
     }
-    Ok(asked)
+    Ok((!help).then_some(asked))
 }
 
 // The board with the commands locked one by one.
@@ -185,13 +188,10 @@ fn answer(asked: &Asked) -> Result<Vec<u8>, Trouble> {
 }
 
 fn run(rt: &HostRuntime) -> anyhow::Result<()> {
-    let asked = read_words(rt)?;
-    for word in env::args(rt)?.skip(1) {
-        if word.as_str() == "--help" {
-            rt.print(HELP)?;
-            return Ok(());
-        }
-    }
+    let Some(asked) = read_words(rt)? else {
+        rt.print(HELP)?;
+        return Ok(());
+    };
     match answer(&asked) {
         Ok(text) => rt.stdout().write_all(text.as_slice())?,
         Err(Trouble::Refused(refusal)) => rt.print(refusal_sentence(rt.alloc(), refusal)?)?,
