@@ -14,7 +14,7 @@ module _ {D : Type 0} {a b : ControlValue D} (left : Lawful a) (right : Lawful b
   lawful : Lawful (side_by_side a b)
   lawful = side_by_side_lawful left right
 
-  beside : side_by_side a b ≡ product a b
+  pub beside : side_by_side a b ≡ product a b
   beside = cond-true (fits a b) (product a b) a fit
 
   pub states_product : {l r : ℕ} → l ≡ a.states → r ≡ b.states → record { value : l * r ≡ (side_by_side a b).states; bound : Count most_states (l * r) }

@@ -1,5 +1,5 @@
 // Two controls of one display kind side by side, as one control.
-ghost use Rattle.std.specs.Prelude.{◌≡◌, ◌+◌, ◌^◌, ◌<◌, if◌then◌else◌};
+ghost use Rattle.std.specs.Prelude.{◌≡◌};
 ghost use Rattle.theory.specs.Control.{fits, side_by_side};
 ghost use Rattle.control.specs.Pairs.{fit_answer, side_by_side_lawful};
 
@@ -9,7 +9,8 @@ use policy::refusal::Refusal;
 use theory::limits::{MOST_COMMANDS, MOST_CONSOLES, MOST_STATES};
 
 // Each side moves and shows its own; a pair that does not fit is the left control alone. Any two
-// controls may be put into the public fields, fit or unfit: so each method asks for the fit.
+// controls may be put into the public fields, fit or unfit: so each method asks for the fit first,
+// and the right side again only where it fits, since that side may be a pair itself, and so on.
 #[derive(Clone, Copy)]
 pub struct SideBySide<L, R> {
     pub left: L,
@@ -41,14 +42,6 @@ impl<L: Control, R: Control<Display = L::Display>> SideBySide<L, R> {
     {
         fit(&self.left, &self.right)
     }
-
-    // The left side's count alone, and besides it the right's where the two fit.
-    fn besides(&self, left: usize, right: usize) -> usize
-        requires { left + right < 2 ^ 64 }
-        ensures { result ≡ (if fits (L.Control.value self.now.left) (R.Control.value self.now.right) then left + right else left) }
-    {
-        if self.fits() { left + right } else { left }
-    }
 }
 
 impl<L: Control, R: Control<Display = L::Display>> Control for SideBySide<L, R> {
@@ -68,11 +61,21 @@ impl<L: Control, R: Control<Display = L::Display>> Control for SideBySide<L, R> 
     }
 
     fn commands(&self) -> usize {
-        self.besides(self.left.commands(), self.right.commands())
+        let left = self.left.commands();
+        if self.fits() {
+            left + self.right.commands()
+        } else {
+            left
+        }
     }
 
     fn consoles(&self) -> usize {
-        self.besides(self.left.consoles(), self.right.consoles())
+        let left = self.left.consoles();
+        if self.fits() {
+            left + self.right.consoles()
+        } else {
+            left
+        }
     }
 
     fn start(&self) -> usize {
