@@ -1,6 +1,6 @@
 // Tokens: a run of bytes sorted into name, number and negative number.
 ghost use Rattle.std.specs.Prelude.{◌≡◌, ◌&&◌, MatchResult, if◌then◌else◌, nat_le, drop, Some, None};
-ghost use Rattle.mark.specs.Runs.{each, is_name, is_number, number_in, NumbersAreDecimals};
+ghost use Rattle.mark.specs.Runs.{each, is_name, number_in, NumbersAreDecimals};
 ghost use Rattle.mark.specs.Tokens.{is_negative, sort_of, no_mark, IsTokenOf};
 ghost use Rattle.mark.specs.declared.cause.Cause.TheVariants.{NoMark};
 
@@ -41,24 +41,18 @@ fn is_name(run: &[u8]) -> bool
     !run.is_empty() && run.len() <= 8 && all_between(run, b'a', b'z')
 }
 
-fn is_number(run: &[u8]) -> bool
-    ensures { result ≡ is_number run.now }
-{
-    match run {
-        [] | [b'0', _, ..] => false,
-        _ => run.len() <= 5 && all_between(run, b'0', b'9'),
-    }
-}
-
-// The number that a run of at most five digits writes.
+// The number that a run of at most five digits writes, read in one go.
 pub fn number(run: &[u8]) -> Option<u32>
     ensures { result ≡ number_in run.now }
 {
-    if !is_number(run) {
+    if matches!(run, [] | [b'0', _, ..]) || run.len() > 5 {
         return None;
     }
     let mut value: u32 = 0;
     for byte in run {
+        if !byte.is_ascii_digit() {
+            return None;
+        }
         value = value * 10 + u32::from(*byte - b'0');
     }
     Some(value)

@@ -46,7 +46,7 @@ impl DisplayKind for Code {
 
     fn mark(&self) -> Mark {
         let mut mark = Mark::new();
-        mark.push_decimal(self.number);
+        mark.push_decimal(u32::from(self.number));
         mark
     }
 

@@ -62,7 +62,7 @@ impl DisplayKind for Reading {
         let mut mark = Mark::new();
         match self {
             None => mark.push_all(b"none"),
-            Some(tenths) => mark.push_decimal(tenths.count),
+            Some(tenths) => mark.push_number(tenths.count),
         }
         mark
     }

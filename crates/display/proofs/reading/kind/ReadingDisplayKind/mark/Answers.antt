@@ -10,7 +10,7 @@ pub returns-in-Some : goal.returns-in-Some
 returns-in-Some c =
     let z = c.in-Some.tenths.count in
     let fits : SFits w16 z = search rules in
-    c.push_decimal.ensures
+    c.push_number.ensures
     ∙ ap (λ l. take 8 (l ++ signed_decimal (to_z w16 (of_z w16 z)))) c.new-mark.ensures
     ∙ ap (λ a. take 8 (signed_decimal a)) (to_z-of_z w16 z fits)
     ∙ signed_whole z c.in-Some.tenths.range
