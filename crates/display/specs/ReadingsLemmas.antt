@@ -1,5 +1,5 @@
 -- A reading of tenths is known by its count, and is what its mark is read as, and no other run.
-use Rattle.std.specs.Prelude.{◌≡◌, ℕ, zero, suc, ◌<◌, ◌≤◌, Bool, true, false, cond, List, ◌∷◌, length, take, drop, ℤ, pos, negsuc, neg_ℤ, Some, None, Ok, Err, codes, decimal, Option, Result, MatchResult, ◌≢◌, slice_index, refl}
+use Rattle.std.specs.Prelude.{◌≡◌, ℕ, zero, suc, ◌<◌, ◌≤◌, Bool, true, false, cond, List, [], ◌∷◌, ◌++◌, length, take, drop, ℤ, pos, negsuc, neg_ℤ, Some, None, Ok, Err, codes, decimal, Option, Result, MatchResult, ◌≢◌, int_lt, slice_index, unsigned_abs, refl}
 use Rattle.std.proofs.Common.{sym, ap, ◌∙◌, subst, arith}
 use Rattle.std.proofs.Math.Bool.{Bool-set}
 use mathlib.Core.HLevel.{is_prop→PathP}
@@ -8,7 +8,7 @@ use Rattle.mark.specs.declared.cause.Cause.{Cause}
 use Rattle.std.specs.Fmt.{signed_decimal}
 use Rattle.std.proofs.lemmas.Fmt.{decimal_digit}
 use Rattle.std.proofs.lemmas.List.{get_or-drop, take_all}
-use Rattle.std.proofs.lemmas.Bool.{both_ways, leb-true, ltb-true}
+use Rattle.std.proofs.lemmas.Bool.{both_ways, le-ltb, leb-true, ltb-true}
 use Rattle.std.proofs.lemmas.Bool.Decides.{Decides-int_eq}
 use Rattle.std.specs.Cmp.Lexicographic.{same_text}
 use Rattle.mark.proofs.Decimals.{decimal_alone, number_in_decimal}
@@ -141,3 +141,15 @@ module _ (z : ℤ) (h : in_range z ≡ true) where
 
   pub signed_whole : take 8 (signed_decimal z) ≡ signed_decimal z
   signed_whole = take_all 8 (signed_decimal z) (omega (arith, signed_length.1))
+
+-- a minus where z is below zero, and then its digits
+pub signed_written : (before : List ℕ) (n : ℕ) (z : ℤ) → in_range z ≡ true → before ≡ cond (int_lt z (pos 0)) (45 ∷ []) [] → n ≡ unsigned_abs z → take 8 (before ++ decimal n) ≡ signed_decimal z
+signed_written before n z h e q =
+    ap (λ l. take 8 (l ++ decimal n)) e
+    ∙ ap (λ m. take 8 (cond (int_lt z (pos 0)) (45 ∷ []) [] ++ decimal m)) q
+    ∙ ap (take 8) (joined z)
+    ∙ take_all 8 (signed_decimal z) (omega (arith, (signed_length z h).1))
+  where
+    joined : (a : ℤ) → cond (int_lt a (pos 0)) (45 ∷ []) [] ++ decimal (unsigned_abs a) ≡ signed_decimal a
+    joined (pos m) = ap (λ b. cond b (45 ∷ []) [] ++ decimal m) (le-ltb m 0 (omega arith))
+    joined (negsuc m) = refl

@@ -1,11 +1,15 @@
 -- For facts of each element of a sequence, and tests of numbers and of some element.
-use Rattle.std.proofs.Common.{◌≡◌, ℕ, Bool, true, false, List, [], ◌∷◌, inl, inr}
-use Rattle.std.proofs.lemmas.Bool.{false≢true, or_cases, or_parts}
+use Rattle.std.proofs.Common.{◌≡◌, ℕ, Bool, true, false, List, [], ◌∷◌, sym, ap, ◌∙◌, inl, inr}
+use Rattle.std.proofs.lemmas.Bool.{true≢false, false≢true, or_cases, or_parts}
 use Rattle.std.proofs.lemmas.List.Elements.{All-from_recursion}
 use Rattle.std.proofs.lemmas.List.Folds.{list_any_none}
 use Rattle.links.specs.Sequences.{Every, some_of}
 -- for the crates above, which name it here
 pub use Rattle.links.specs.Sequences.{Below}
+
+-- numbers that a test answers differently differ
+pub differ_by_test : (f : ℕ → Bool) {v w : ℕ} → f v ≡ true → f w ≡ false → v ≡ w → ⊥
+differ_by_test f passes fails same = true≢false (sym passes ∙ ap f same ∙ fails)
 
 pub all_given : {P : ℕ → Type 0} → ((x : ℕ) → P x) → (xs : List ℕ) → Every P xs
 all_given f [] = tt

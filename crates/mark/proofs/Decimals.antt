@@ -6,7 +6,7 @@ use Rattle.std.proofs.lemmas.Bool.{cases_lt}
 use Rattle.std.proofs.lemmas.Bool.Decides.{nat_tests}
 use Rattle.mark.specs.Runs.{each, digit, is_number, number_after, number_in}
 
-digits_in_number : (bs : List ℕ) → is_number bs ≡ true → (0 < length bs) × (length bs ≤ 5) × (each digit bs ≡ true) × (get_or bs 0 0 ≡ 48 → length bs ≡ 1)
+pub digits_in_number : (bs : List ℕ) → is_number bs ≡ true → (0 < length bs) × (length bs ≤ 5) × (each digit bs ≡ true) × (get_or bs 0 0 ≡ 48 → length bs ≡ 1)
 digits_in_number bs e = parts (length bs) (get_or bs 0 0) (each digit bs) e
   where
     parts : (n b : ℕ) (rest : Bool) → (leb 1 n && (leb n 5 && ((leb n 1 || not (eqb b 48)) && rest))) ≡ true → (0 < n) × (n ≤ 5) × (rest ≡ true) × (b ≡ 48 → n ≡ 1)

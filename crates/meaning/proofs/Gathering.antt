@@ -1,5 +1,5 @@
 -- For sets of consoles that stand for lists: one is affected in both or in neither, and sources grow in both alike.
-use Rattle.std.proofs.Common.{◌≡◌, ℕ, ◌+◌, ◌<◌, Bool, true, false, ◌&&◌, ◌||◌, eqb, ltb, List, [], ◌∷◌, ◌++◌, reverse, length, get_or, take, sym, refl, ap, ◌∙◌, inl, inr, arith}
+use Rattle.std.proofs.Common.{◌≡◌, ℕ, ◌+◌, ◌<◌, Bool, true, false, ◌&&◌, ◌||◌, eqb, ltb, List, [], ◌∷◌, ◌++◌, reverse, length, get_or, take, Decides, sym, refl, ap, ◌∙◌, inl, inr, arith}
 use Rattle.std.proofs.lemmas.List.{reverse-append, take_more}
 use Rattle.std.specs.List.{list_any, range_with_len}
 use Rattle.std.proofs.lemmas.List.FromFn.{length-range_with_len, get_or-range_with_len}
@@ -31,6 +31,13 @@ some_passes f (y ∷ s) x within passes =
       | inr on ↦ or_right (f y) (some_of f s) (some_passes f s x on passes)
     ]
 
+-- one of the list that a set stands for is affected just where a console of the set is
+pub decides_affects : (F : Flow) (w : ℕ) (s : List ℕ) (set : Members) → SetOf s set → Decides (some_of (F w) s) ((x : ℕ) × (holds set x ≡ true) × (F w x ≡ true))
+decides_affects F w s set stands = (found, (λ one. some_passes (F w) s one.0 (sym (stands one.0) ∙ one.1) one.2))
+  where
+    found : some_of (F w) s ≡ true → (x : ℕ) × (holds set x ≡ true) × (F w x ≡ true)
+    found e = let (x, within, affected) = one_passes (F w) s e in (x, stands x ∙ within, affected)
+
 any_passes : (f : ℕ → Bool) (s : List ℕ) → list_any f s ≡ true → (x : ℕ) × (f x ≡ true)
 any_passes f [] e = absurd (false≢true e)
 any_passes f (y ∷ s) e = elim (or_cases (f y) (list_any f s) e) [ inl here ↦ (y, here) | inr on ↦ any_passes f s on ]
@@ -46,14 +53,14 @@ any_affected F k within w s set stands =
 
     listed : list_any test (range_with_len 0 k) ≡ true → some_of (F w) s ≡ true
     listed e = let (x, both) = any_passes test (range_with_len 0 k) e in
-        let parts = and_parts (holds set x) (F w x) both in some_passes (F w) s x (sym (stands x) ∙ parts.0) parts.1
+        let parts = and_parts (holds set x) (F w x) both in (decides_affects F w s set stands).1 (x, parts.0, parts.1)
 
     found : some_of (F w) s ≡ true → list_any test (range_with_len 0 k) ≡ true
-    found e = let (x, one, affected) = one_passes (F w) s e in
+    found e = let (x, one, affected) = (decides_affects F w s set stands).0 e in
         let below : x < k = (within w x affected).1 in
         let at : get_or (range_with_len 0 k) x 0 ≡ x = get_or-range_with_len 0 k x 0 below ∙ omega arith in
         list_any_at test (range_with_len 0 k) x 0 (omega (arith, length-range_with_len 0 k))
-        (ap test at ∙ and_from (holds set x) (F w x) (stands x ∙ one) affected)
+        (ap test at ∙ and_from (holds set x) (F w x) one affected)
 
 -- and then it is one of the k consoles
 pub any_below : (F : Flow) (k : ℕ) → FlowsWithin k F → (w : ℕ) (set : Members) → list_any (λ x. holds set x && F w x) (range_with_len 0 k) ≡ true → w < k

@@ -1,10 +1,10 @@
 -- A pass over the rows from its start to its end: what was read so far, and what is left.
-use Rattle.std.proofs.Common.{◌≡◌, ℕ, ◌+◌, List, length, Ok, Err, Result, sym, refl, ap, ◌∙◌, arith}
+use Rattle.std.proofs.Common.{◌≡◌, ℕ, ◌+◌, ◌<◌, List, length, None, Ok, Err, Result, sym, refl, ap, ◌∙◌, arith}
 use Rattle.std.proofs.lemmas.List.{append_assoc}
 use Rattle.mark.specs.declared.cause.Cause.{Cause}
 use Rattle.sheet.specs.Faults.{on}
 use Rattle.sheet.specs.Reading.{Entries, Value, nothing, owned, stepped, showed, with_value, no_entries, plan_of, rows_at}
-use Rattle.sheet.specs.Due.{Within}
+use Rattle.sheet.specs.Due.{Within, rows_left}
 use Rattle.sheet.specs.Entries.{counted, value_of}
 use Rattle.sheet.specs.Passes.{Ready, Stepped, left_at, line_behind, started}
 use Rattle.sheet.specs.Stores.{joined}
@@ -38,6 +38,12 @@ module _ {D : Type 0} (reads : List ℕ → Result D Cause) (h : Heading) where
 
   pub pass_whole : (a : Cursor) → rows_at reads (counted h) a.sheet.now (plan_of (counted h)) 3 a.at ≡ left_at reads h (started a)
   pass_whole a = ap (λ rs. rows_at reads (counted h) a.sheet.now rs 3 a.at) (all_due h.counts)
+
+  pub pass_less : (p q : Progress) (d : Due) (v : Entry D) → Stepped reads h p q d v → length (rows_left h.counts q.due) < length (rows_left h.counts p.due)
+  pass_less p q d v t = omega (arith, t.lines, t.behind)
+
+  pub pass_last : (p : Progress) → p.due ≡ None → line_behind h.counts p ≡ p.line
+  pass_last p e = ap (λ d. p.line + length (rows_left h.counts d)) e ∙ omega arith
 
   -- W is what all rows say, and `so_far` is what was read of it
   module _ (W : Result (Entries D × ℕ) SheetFault) where

@@ -17,6 +17,9 @@ sets_past : (out : List ℕ) (i : ℕ) (xs : List ℕ) → length out ≤ i → 
 sets_past out i [] h = refl
 sets_past out i (x ∷ xs) h = ap (λ o. sets o (suc i) xs) (set_past out i x h) ∙ sets_past out (suc i) xs (omega arith)
 
+pub wrote_none : (out : List ℕ) (at : ℕ) → length out ≤ last_place → at ≤ last_place → Wrote out at [] out at
+wrote_none out at h k = record { room = h; place = omega arith; output = refl }
+
 pub wrote_more : {was half is : List ℕ} {at i behind : ℕ} (xs ys : List ℕ) → Wrote was at xs half i → Wrote half i ys is behind → Wrote was at (xs ++ ys) is behind
 wrote_more {was} {half} {is} {at} {i} {behind} xs ys first second = record {
   room = first.room;
@@ -36,6 +39,9 @@ wrote_more {was} {half} {is} {at} {i} {behind} xs ys first second = record {
 -- the same text, written in another way
 pub wrote_as : {was is : List ℕ} {at behind : ℕ} {xs ys : List ℕ} → xs ≡ ys → Wrote was at xs is behind → Wrote was at ys is behind
 wrote_as {was} {is} {at} {behind} same w = subst (λ text. Wrote was at text is behind) same w
+
+pub wrote_now : {was is held : List ℕ} {at behind place : ℕ} {text : List ℕ} → held ≡ is → place ≡ behind → Wrote was at text is behind → Wrote was at text held place
+wrote_now e f w = record { room = w.room; place = f ∙ w.place; output = e ∙ w.output }
 
 -- one text behind the other, in the same lent bytes
 pub writes_more : {was half is : Output} (xs ys : List ℕ) → Writes was xs half → Writes half ys is → Writes was (xs ++ ys) is

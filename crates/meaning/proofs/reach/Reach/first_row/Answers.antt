@@ -3,7 +3,7 @@ use Rattle.std.proofs.Common.{◌+◌, [], get_or, take, arith}
 use Rattle.std.proofs.lemmas.List.{take_more}
 use Rattle.meaning.specs.Agreeing.{AgreeingSet}
 use Rattle.meaning.proofs.Agreement.{agreeing_right}
-use Rattle.meaning.proofs.Passing.{row_more}
+use Rattle.meaning.proofs.Passing.{row_pushed}
 use Rattle.meaning.proofs.reach.Reach.first_row.Goals as goal
 
 pub loop-command-preserved : goal.loop-command-preserved
@@ -16,5 +16,5 @@ loop-command-preserved c =
     (agreeing_right self c.loop-command.agreeing c.unreached-agreeing.result (get_or right i 0) c.unreached-agreeing.ensures (take i right) so_far.1) in (
       omega (arith, c.push-in-loop-command.ensures.len),
       told,
-      rw c.push-in-loop-command.ensures.items (row_more (λ k set. AgreeingSet self [] (take k right) set) c.loop-command.row.items i c.unreached-agreeing.result so_far.0 so_far.2 told),
+      rw c.push-in-loop-command.ensures.items (row_pushed (λ k set. AgreeingSet self [] (take k right) set) c.loop-command.row.items i c.unreached-agreeing.result so_far.0 so_far.2 told),
     )

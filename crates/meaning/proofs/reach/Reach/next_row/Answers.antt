@@ -6,7 +6,7 @@ use Rattle.std.proofs.lemmas.List.Edits.{get_or-between}
 use Rattle.std.proofs.lemmas.Slice.Zip.{zip_turn}
 use Rattle.policy.specs.Rows.{nobody}
 use Rattle.meaning.specs.Agreeing.{AgreeingSet}
-use Rattle.meaning.proofs.Passing.{row_more}
+use Rattle.meaning.proofs.Passing.{row_pushed}
 use Rattle.meaning.proofs.reach.Reach.next_row.Goals as goal
 
 pub loop-other-preserved : goal.loop-other-preserved
@@ -31,6 +31,6 @@ loop-other-preserved c =
           (c.agreeing_at-beside.ensures p (take j right)
           record { above = rw (sym grown, over) (above (j + 1) (omega (arith, turn.0))); beside = (held.2 p above).0; across = rw held.1 (above j (omega (arith, turn.0))) }) in (
             rw longer told,
-            rw (longer, c.push-in-loop-other.ensures.items) (row_more (λ k s. AgreeingSet self (p ++ a ∷ []) (take k right) s) c.loop-other.row.items j set held.0 (held.2 p above).1 told),
+            rw (longer, c.push-in-loop-other.ensures.items) (row_pushed (λ k s. AgreeingSet self (p ++ a ∷ []) (take k right) s) c.loop-other.row.items j set held.0 (held.2 p above).1 told),
           ),
     )
