@@ -1,16 +1,17 @@
 -- A reading of tenths is known by its count, and is what its mark is read as, and no other run.
-use Rattle.std.specs.Prelude.{◌≡◌, ℕ, zero, suc, ◌<◌, ◌≤◌, Bool, true, false, cond, List, [], ◌∷◌, ◌++◌, length, take, drop, ℤ, pos, negsuc, neg_ℤ, Some, None, Ok, Err, codes, decimal, Option, Result, MatchResult, ◌≢◌, int_lt, slice_index, unsigned_abs, refl}
+use Rattle.std.specs.Prelude.{◌≡◌, ℕ, zero, suc, ◌-◌, ◌<◌, ◌≤◌, Bool, true, false, cond, List, [], ◌∷◌, ◌++◌, length, take, drop, ℤ, pos, negsuc, neg_ℤ, Some, None, Ok, Err, codes, decimal, Decides, Option, Result, MatchResult, ◌≢◌, int_lt, slice_index, unsigned_abs, refl}
 use Rattle.std.proofs.Common.{sym, ap, ◌∙◌, subst, arith}
 use Rattle.std.proofs.Math.Bool.{Bool-set}
 use mathlib.Core.HLevel.{is_prop→PathP}
+use Rattle.std.specs.Option.{ok_or, unwrap_or}
 use Rattle.std.specs.Result.{IsOkAnd, result_map_both}
 use Rattle.mark.specs.declared.cause.Cause.{Cause}
 use Rattle.std.specs.Fmt.{signed_decimal}
 use Rattle.std.proofs.lemmas.Fmt.{decimal_digit}
-use Rattle.std.proofs.lemmas.List.{get_or-drop, take_all}
+use Rattle.std.proofs.lemmas.List.{get_or-drop, take_all, take_rest}
 use Rattle.std.proofs.lemmas.Bool.{both_ways, le-ltb, leb-true, ltb-true}
-use Rattle.std.proofs.lemmas.Bool.Decides.{Decides-int_eq}
-use Rattle.std.specs.Cmp.Lexicographic.{same_text}
+use Rattle.std.proofs.lemmas.Bool.Decides.{Decides-int_eq, same_from_decides}
+use Rattle.std.specs.Cmp.Lexicographic.{bytes_decides, same_text}
 use Rattle.mark.proofs.Decimals.{decimal_alone, number_in_decimal}
 use Rattle.mark.proofs.Sorts.{minus_first, minus_then, negative_sorted, sort_decimal, sort_minus}
 use Rattle.mark.specs.Runs.{each, number_in, same_bytes}
@@ -93,11 +94,35 @@ readings_read_back (Some x) = counts_read_back x x.count refl x.range
 
 -- a run that writes the number n is read as n tenths, and one that writes it after a minus as n tenths below zero
 module _ (bs : List ℕ) (n : ℕ) (z : ℤ) (r : Result Reading Cause) (given : r ≡ tenths_when z (λ x. Ok (Some x)) (Err OutOfRange)) where
-  pub reads_above : sort_of bs ≡ number → number_in bs ≡ Some n → z ≡ pos n → r ≡ reading_reads bs
-  reads_above s e q = given ∙ ap (λ a. tenths_when a (λ x. Ok (Some x)) (Err OutOfRange)) q ∙ ap (reading_from pos) (sym e) ∙ ap (λ t. reading_sorted t bs) (sym s)
+  pub reads_number : sort_of bs ≡ number → number_in bs ≡ Some n → z ≡ pos n → r ≡ reading_reads bs
+  reads_number s e q = given ∙ ap (λ a. tenths_when a (λ x. Ok (Some x)) (Err OutOfRange)) q ∙ ap (reading_from pos) (sym e) ∙ ap (λ t. reading_sorted t bs) (sym s)
 
-  pub reads_below : sort_of bs ≡ negative → number_in (drop 1 bs) ≡ Some n → z ≡ neg_ℤ (pos n) → r ≡ reading_reads bs
-  reads_below s e q = given ∙ ap (λ a. tenths_when a (λ x. Ok (Some x)) (Err OutOfRange)) q ∙ ap (reading_from (λ m. neg_ℤ (pos m))) (sym e) ∙ ap (λ t. reading_sorted t bs) (sym s)
+  pub reads_negative : sort_of bs ≡ negative → number_in (drop 1 bs) ≡ Some n → z ≡ neg_ℤ (pos n) → r ≡ reading_reads bs
+  reads_negative s e q = given ∙ ap (λ a. tenths_when a (λ x. Ok (Some x)) (Err OutOfRange)) q ∙ ap (reading_from (λ m. neg_ℤ (pos m))) (sym e) ∙ ap (λ t. reading_sorted t bs) (sym s)
+
+-- a run that sorts as negative is read by what stands after its first byte
+pub reads_below : (run bs : List ℕ) → run ≡ bs → negative ≡ sort_of bs → reading_from (λ n. neg_ℤ (pos n)) (number_in (take (length run - 1) (drop 1 run))) ≡ reading_reads bs
+reads_below run bs q s =
+    ap (λ l. reading_from (λ n. neg_ℤ (pos n)) (number_in l)) (take_rest run 1 ∙ ap (drop 1) q)
+    ∙ ap (λ t. reading_sorted t bs) s
+
+-- what is answered of the reading of z tenths, where there is one
+pub counted_from : (o : Option Reading) (z y : ℤ) → o ≡ tenths_when z (λ x. Some (Some x)) None → z ≡ y → ok_or o OutOfRange ≡ tenths_when y (λ x. Ok (Some x)) (Err OutOfRange)
+counted_from o z y e q =
+    ap (λ p. ok_or p OutOfRange) e
+    ∙ tenths_when_then z (λ x. Some (Some x)) None (λ p. ok_or p OutOfRange)
+    ∙ ap (λ a. tenths_when a (λ x. Ok (Some x)) (Err OutOfRange)) q
+
+pub stored_from : (o : Option Reading) (x : Reading) (z y : ℤ) → o ≡ tenths_when z (λ t. Some (Some t)) None → z ≡ y → x ≡ reading_stored (Some (pos 0)) → unwrap_or o x ≡ reading_stored (Some y)
+stored_from o x z y e q r =
+    ap (λ p. unwrap_or p x) e
+    ∙ tenths_when_then z (λ t. Some (Some t)) None (λ p. unwrap_or p x)
+    ∙ ap (λ a. tenths_when a (λ t. Some t) x) q
+    ∙ ap (tenths_when y (λ t. Some t)) r
+    ∙ sym (tenths_when_then y (λ t. t) (tenths_at (pos 0) refl) Some)
+
+pub told_as_bytes : (bs cs : List ℕ) (r : Bool) → Decides r (bs ≡ cs) → same_bytes bs cs ≡ r
+told_as_bytes bs cs r h = same_from_decides (same_bytes bs cs) r (bytes_decides bs cs) h
 
 below_zero : (bs : List ℕ) (n : ℕ) → (slice_index bs 0 ≡ 45) × (slice_index bs 1 ≢ 48) → drop 1 bs ≡ decimal n → bs ≡ signed_decimal (neg_ℤ (pos n))
 below_zero bs zero h e = absurd (h.1 (sym (get_or-drop 1 bs 0 0) ∙ ap (λ ds. slice_index ds 0) (e ∙ decimal_digit 0 (omega arith))))

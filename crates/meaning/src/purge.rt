@@ -5,7 +5,7 @@ ghost use Rattle.links.proofs.Purging.{purge_laws};
 
 use crate::compared::Compared;
 use crate::meaning::Meaning;
-use crate::purging::{Kept, Purging, same_remains};
+use crate::purging::{Purging, same_remains};
 use crate::range::all_there;
 use crate::reach::Reach;
 use policy::flows::Flows;
@@ -16,14 +16,14 @@ pub struct Purge;
 impl Purging for Purge {
     ghost purge = { purge };
 
-    fn purged(reach: &Reach, console: usize, sequence: &Compared) -> Kept {
-        let mut kept = Kept::new();
-        for command in sequence.commands {
-            if reach.reaches(*command, console) {
-                kept.push(*command);
-            }
-        }
-        kept
+    // Nothing is kept: what counts of the left is met with what counts of the right, one by one.
+    fn same_left(reach: &Reach, console: usize, left: &Compared, right: &Compared) -> bool {
+        let heard = reach.heard(console);
+        let counts = |command: &&u8| heard.has(reach.giver(**command));
+        left.commands
+            .iter()
+            .filter(counts)
+            .eq(right.commands.iter().filter(counts))
     }
 }
 

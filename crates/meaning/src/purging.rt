@@ -2,23 +2,20 @@
 ghost use Rattle.std.specs.Prelude.{◌≡◌, ℕ, ◌<◌, List};
 ghost use Rattle.theory.specs.Flows.{Flow};
 ghost use Rattle.policy.specs.Flows.{consoles_of};
+ghost use Rattle.links.specs.Sequences.{same_sequence};
 ghost use Rattle.meaning.specs.Compared.{same_purged};
 ghost use Rattle.meaning.specs.Reach.{flow_of, giver_of};
 
-use crate::compared::{Compared, MOST_COMPARED};
+use crate::compared::Compared;
 use crate::reach::Reach;
-use arrayvec::ArrayVec;
-
-// The commands that a purge keeps of a sequence, in their order.
-pub(crate) type Kept = ArrayVec<u8, MOST_COMPARED>;
 
 pub(crate) trait Purging {
     ghost purge: { Flow → (ℕ → ℕ) → ℕ → List ℕ → List ℕ };
 
-    // What is left of a sequence for `console`.
-    fn purged(reach: &Reach, console: usize, sequence: &Compared) -> Kept
+    // Whether the same is left of both sequences for `console`.
+    fn same_left(reach: &Reach, console: usize, left: &Compared, right: &Compared) -> bool
         requires { console < consoles_of reach.now.flows.now }
-        ensures { result.items ≡ purge (flow_of reach.now) (giver_of reach.now) console sequence.now.commands.now };
+        ensures { result ≡ same_sequence (purge (flow_of reach.now) (giver_of reach.now) console left.now.commands.now) (purge (flow_of reach.now) (giver_of reach.now) console right.now.commands.now) };
 }
 
 // Whether both sequences can be compared, and the purge leaves the same of both.
@@ -31,9 +28,7 @@ pub(crate) fn same_remains<P: Purging>(
     ensures { result ≡ same_purged P.purge reach.now console left.now right.now }
 {
     match reach.compared(console, left, right) {
-        Some((left, right)) => {
-            P::purged(reach, console, &left) == P::purged(reach, console, &right)
-        }
+        Some((left, right)) => P::same_left(reach, console, &left, &right),
         None => false,
     }
 }

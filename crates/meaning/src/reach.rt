@@ -1,12 +1,15 @@
-// Who gives each command, and which consoles a command reaches.
-ghost use Rattle.std.specs.Prelude.{◌≡◌, ◌<◌, is_some, IfSome};
+// Who gives each command, which consoles a command reaches, and which a console hears.
+ghost use Rattle.std.specs.Prelude.{◌≡◌, ℕ, ◌<◌, is_some, IfSome};
 ghost use Rattle.policy.specs.Flows.{consoles_of};
+ghost use Rattle.policy.specs.Members.{holds};
 ghost use Rattle.meaning.specs.Compared.{both_comparable};
 ghost use Rattle.meaning.specs.Reach.{flow_of, giver_of};
 
 use crate::compared::Compared;
+use crate::consoles::consoles_where;
 use control::reading::all_below;
 use policy::flows::Flows;
+use policy::members::Members;
 
 // Command c is given by console `owners[c]`. The console that is asked about is no field: the table
 // of TA is about all consoles at once.
@@ -31,6 +34,13 @@ impl<'a> Reach<'a> {
         ensures { result ≡ flow_of self.now (giver_of self.now command) console }
     {
         self.flows.may_affect(self.giver(command), console)
+    }
+
+    // The consoles that may affect `console`.
+    pub(crate) fn heard(&self, console: usize) -> Members
+        ensures { (x : ℕ) → holds result x ≡ flow_of self.now x console }
+    {
+        consoles_where(self.flows, |from| self.flows.may_affect(from, console))
     }
 
     // Both sequences, where console, owners and commands are all there and neither is too long.

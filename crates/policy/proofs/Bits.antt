@@ -1,11 +1,21 @@
--- The bits of a complement, and one number more, and one number less, in a set with room for the numbers below 32.
-use Rattle.std.proofs.Common.{◌≡◌, ℕ, zero, suc, ◌-◌, ◌*◌, ◌/◌, ◌%◌, ◌^◌, ◌<◌, not, ◌&&◌, ◌||◌, eqb, ltb, sym, ap, ◌∙◌, ⊎_elim, pow-suc, arith}
+-- The bits of a power of two and of a complement, and one number more, and one number less, in a set with room for the numbers below 32.
+use Rattle.std.proofs.Common.{◌≡◌, ℕ, zero, suc, ◌+◌, ◌-◌, ◌*◌, ◌/◌, ◌%◌, ◌^◌, ◌<◌, ◌≤◌, not, ◌&&◌, ◌||◌, eqb, ltb, ◌⊎◌, sym, ap, ◌∙◌, inl, inr, ⊎_elim, pow-suc, arith}
 use Rattle.std.specs.Int.{bit_at, w32}
 use lib.Bits.{bit_and, bit_or}
+use Rattle.std.proofs.lemmas.Nat.{pow-add, shl-shr}
 use Rattle.std.proofs.lemmas.Nat.Bits.{bit_at_lowest, bit_at-suc, bit_at-lt, bit_at_set_same, bit_at_set_other, bit_at_clear_same, bit_at_clear_other}
 use Rattle.std.proofs.lemmas.Bool.{cases_eq}
 use Rattle.std.proofs.lemmas.Bool.Decides.{nat_tests}
 use Rattle.policy.specs.Members.{bit}
+
+even_or_odd : (n : ℕ) → (n % 2 ≡ 0) ⊎ (n % 2 ≡ 1)
+even_or_odd n = ⊎_elim inl (λ ne. inr (omega arith)) (cases_eq (n % 2) 0)
+
+-- a power of two, seen from a lower bit
+pow_shr : (k j : ℕ) → j ≤ k → 2 ^ k / 2 ^ j ≡ 2 ^ (k - j)
+pow_shr k j h =
+    let whole : (k - j) + j ≡ k = omega arith in
+    ap (λ n. 2 ^ n / 2 ^ j) (sym whole) ∙ ap (λ n. n / 2 ^ j) (pow-add 2 (k - j) j) ∙ shl-shr (2 ^ (k - j)) j
 
 -- of the numbers below 2 ^ w, the one that y leaves over, seen bit by bit
 left_over : (w y j : ℕ) → y < 2 ^ w → j < w → bit_at (2 ^ w - 1 - y) j ≡ 1 - bit_at y j

@@ -7,6 +7,6 @@ use Rattle.meaning.proofs.reach.Reach.agreeing_at.Goals as goal
 
 pub returns : goal.returns
 returns c p q known x below =
-    let h = c.consoles_where.ensures x below in
+    let h = c.consoles_where.ensures.passing x below in
     let at : holds c.consoles_where.result x ≡ corner_alike c.args.self.now c.args.corner x = search rules in
     at ∙ corner_told c.args.self.now p q c.args.corner known x below

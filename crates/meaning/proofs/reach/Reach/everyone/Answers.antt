@@ -3,4 +3,4 @@ use Rattle.std.proofs.Common.{rules}
 use Rattle.meaning.proofs.reach.Reach.everyone.Goals as goal
 
 pub returns : goal.returns
-returns c x below = let h = c.consoles_where.ensures x below in search rules
+returns c x below = let h = c.consoles_where.ensures.passing x below in search rules

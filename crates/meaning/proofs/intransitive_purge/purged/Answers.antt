@@ -5,7 +5,7 @@ use Rattle.std.proofs.lemmas.Iterator.Consumers.{YieldsList-turn}
 use Rattle.std.proofs.lemmas.List.{length_push}
 use Rattle.meaning.specs.Reach.{flow_of, giver_of}
 use Rattle.meaning.proofs.Gathering.{carried_kept, carried_left, back_more}
-use Rattle.meaning.proofs.intransitive_purge.IntransitivePurgePurging.purged.Goals as goal
+use Rattle.meaning.proofs.intransitive_purge.purged.Goals as goal
 
 pub loop-command-preserved-then-has : goal.loop-command-preserved-then-has
 loop-command-preserved-then-has c =

@@ -2,7 +2,7 @@
 use Rattle.std.proofs.Common.{◌≤◌, length, reverse, take}
 use Rattle.meaning.specs.Reach.{flow_of, giver_of}
 use Rattle.meaning.proofs.Gathering.{Carried}
-use Rattle.meaning.proofs.intransitive_purge.IntransitivePurgePurging.purged.Given as goal
+use Rattle.meaning.proofs.intransitive_purge.purged.Given as goal
 
 abbrev pub invariant-loop-command : goal.invariant-loop-command
 invariant-loop-command l =
